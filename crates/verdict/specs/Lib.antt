@@ -1,0 +1,4 @@
+pub mod Bits
+pub mod Refusal
+pub mod File
+pub mod Output
