@@ -1,7 +1,12 @@
 // The Clause 22 frame: a list of transactions, the clock steps that send it, and the answers that a log of them holds
 // (document 01, "Records" and "Clock steps").
+mod answer;
+mod list;
 
-// A transaction's 65 clocks, by position from 1. All positions follow from the preamble's length.
+pub use answer::Answer;
+pub use list::Transaction;
+
+// The shared numbers of a frame. Clocks are positions from 1, and each follows from the preamble's length.
 pub struct Frame {}
 
 impl Frame {
@@ -10,10 +15,14 @@ impl Frame {
     pub const HEADER_BITS: usize = 14;
 
     pub const BITS: usize = 32;
-    // A read acts at its 46th clock, the register's last bit, and a write at its 64th, the last data bit.
+    // A read acts at its 46th clock and a write at its 64th; the idle clock ends the transaction.
     pub const READ_ACTS: usize = Frame::PREAMBLE + Frame::HEADER_BITS;
 
     pub const WRITE_ACTS: usize = Frame::PREAMBLE + Frame::BITS;
-    // The idle clock ends the transaction.
+
     pub const CLOCKS: usize = Frame::WRITE_ACTS + 1;
+
+    pub const LOG_RECORD: usize = 5;
+
+    pub const LOG_PART: usize = Frame::CLOCKS * Frame::LOG_RECORD;
 }

@@ -1,0 +1,5 @@
+pub mod Frame
+pub mod List
+pub mod Steps
+pub mod Log
+pub mod Answers

@@ -1,0 +1,18 @@
+// One transceiver (document 01, "The PHY's follower" and "Registers"). It goes by value: each method hands the next PHY
+// back.
+use wire::Follower;
+
+pub struct Phy {
+    pub address: u8,
+    // Bit r for register r.
+    pub implemented: u32,
+    pub defaults: [u16; 32],
+    // The bits of each register that a write stores.
+    pub masks: [u16; 32],
+    pub registers: [u16; 32],
+    // Whether the link is up now; 1.2 is what is held of it.
+    pub link: bool,
+    pub follower: Follower,
+    // The word captured for an own read under way, else 0.
+    pub captured: u16,
+}

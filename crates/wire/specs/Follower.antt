@@ -1,0 +1,42 @@
+-- Document 01, "The PHY's follower".
+use Prim.Native.Nat.{ℕ, zero, suc, _+_, _*_, _-_, _/_, _%_, _^_, min}
+use mathlib.Core.Bool.{Bool, true, false, not, _&&_, cond}
+use lib.Dec.{leb, eqb}
+use Rattle.frame.specs.Frame.{headerBits, frameBits}
+use Rattle.wire.specs.declared.Follower.{Follower}
+use Rattle.wire.specs.declared.Follower.the-variants.{Hunting, Inside}
+use Rattle.wire.specs.declared.Header.{Header}
+
+-- "a 1 adds one to the ones, at most 32. A 0 with enough ones (..) starts a frame; with fewer, ones become 0"
+abbrev pub hunt : ℕ → Bool → ℕ → Follower
+hunt enough true ones = Hunting (min (ones + 1) 32)
+hunt enough false ones = cond (leb enough ones) (Inside 1 0) (Hunting 0)
+
+-- the bits with one more behind them, of which the last 32 are kept
+abbrev pub oneMore : ℕ → Bool → ℕ
+oneMore bits true = bits % 2 ^ 31 * 2 + 1
+oneMore bits false = bits % 2 ^ 31 * 2
+
+-- what follows a wrong start: "Second start bit 0: back to hunting with 0 ones"
+abbrev pub afterWrongStart : Follower
+afterWrongStart = Hunting 0
+
+-- "A frame runs 32 bits, then hunting with 0 ones"
+abbrev pub inside : Bool → ℕ → ℕ → Follower
+inside level seen bits =
+    cond (leb (frameBits - 1) seen) (Hunting 0)
+    (cond (not level && eqb seen 1) afterWrongStart
+    (Inside (seen + 1) (oneMore bits level)))
+
+-- a follower after a clock at a level, where `enough` ones let a 0 start a frame
+unfoldable pub follow : ℕ → Bool → Follower → Follower
+follow enough level (Hunting ones) = hunt enough level ones
+follow enough level (Inside seen bits) = inside level seen bits
+
+-- the header that 14 bits say: start, op, address, register
+unfoldable pub headerOf : ℕ → Header
+headerOf bits = record { op = bits / 2 ^ 10 % 4; address = bits / 2 ^ 5 % 32; register = bits % 32 }
+
+-- the header of a frame with at least 14 bits seen
+abbrev pub headerSeen : ℕ → ℕ → Header
+headerSeen seen bits = headerOf (bits / 2 ^ (seen - headerBits))

@@ -1,0 +1,51 @@
+-- Document 01, "The plain machine": no wire; "transaction k reads in clock 65(k-1)+46 or stores in 65(k-1)+64, by the register rules (..) events by clock number."
+use Prim.Native.Nat.{ℕ, zero, suc, _+_, _-_}
+use mathlib.Core.Bool.{Bool, true, false, cond}
+use mathlib.Core.List.{List, [], _∷_, map}
+use Rattle.frame.specs.declared.list.Transaction.{Transaction}
+use Rattle.frame.specs.declared.answer.Answer.{Answer}
+use Rattle.frame.specs.Frame.{headerBits, frameBits}
+use Rattle.frame.specs.List.{isRead}
+use Rattle.frame.specs.Answers.{sent, answered, silent, answerTo}
+use Rattle.wire.specs.declared.Header.{Header}
+
+-- what the plain machine asks of a party: whether it answers a header and with what word, what the header of a read and the end of a frame do to it, and what the events after a clock do
+pub record Core (P : Type 0) : Type 0 where
+  pub answers : Header → P → Bool
+  pub word : Header → P → ℕ
+  pub afterHeader : Header → P → P
+  pub afterFrame : Header → ℕ → P → P
+  pub happens : ℕ → P → P
+
+-- the header that a transaction sends
+abbrev pub headerFor : Transaction → Header
+headerFor t = record { op = t .op; address = t .address; register = t .register }
+
+module _ {P : Type 0} (core : Core P) where
+  -- n clocks in which nothing acts, after c clocks: their events alone
+  unfoldable pub quiet : ℕ → ℕ → List P → List P
+  quiet c zero ps = ps
+  quiet c (suc n) ps = quiet (suc c) n (map (core .happens (suc c)) ps)
+
+  -- the answer to a read: of the party that answers its header, else silent
+  abbrev pub readOf : Transaction → List P → Answer
+  readOf t [] = answerTo t silent 0
+  readOf t (p ∷ ps) =
+      cond (core .answers (headerFor t) p) (answerTo t answered (core .word (headerFor t) p)) (readOf t ps)
+
+  -- One transaction with a preamble of m ones, after c clocks: a read acts in its clock m + 14 and a write in m + 32
+  module _ (m : ℕ) (t : Transaction) (c : ℕ) (ps : List P) where
+    abbrev pub beforeRead : List P
+    beforeRead = quiet c (m + headerBits - 1) ps
+
+    abbrev pub beforeWrite : List P
+    beforeWrite = quiet c (m + frameBits - 1) ps
+
+    abbrev pub plainAnswer : Answer
+    plainAnswer = cond (isRead t) (readOf t beforeRead) (answerTo t sent (t .«data»))
+
+    abbrev pub plainAfter : List P
+    plainAfter =
+        cond (isRead t)
+        (quiet (c + (m + headerBits - 1)) (frameBits - headerBits + 2) (map (core .afterHeader (headerFor t)) beforeRead))
+        (quiet (c + (m + frameBits - 1)) 2 (map (core .afterFrame (headerFor t) (t .«data»)) beforeWrite))

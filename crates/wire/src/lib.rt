@@ -1,0 +1,78 @@
+// What every party on the wire has in common: what it may drive in a clock, and how it follows frames by the levels
+// alone (document 01, "Clock steps" and "The PHY's follower").
+ghost use mathlib.Core.Path.{_≡_};
+ghost use Rattle.wire.specs.Follower.{follow, headerOf};
+
+// What one party does to the wire in a clock.
+pub enum Drive {
+    Released,
+    Driven(bool),
+}
+
+// What a party knows of the frames on the wire.
+pub enum Follower {
+    // Hunting for a frame, with the ones seen, at most 32.
+    Hunting(u8),
+    // Inside a frame, with the number of bits seen, 1 to 31, and the bits, high bit first.
+    Inside(u8, u32),
+}
+
+// The first 14 bits of a frame: start, op, address, register.
+pub struct Header {
+    pub op: u8,
+    pub address: u8,
+    pub register: u8,
+}
+
+impl Header {
+    // The header that 14 bits say.
+    pub fn of(bits: u32) -> Header
+        ensures { λ r. ⌜ r ≡ headerOf bits ⌝ }
+    {
+        Header {
+            op: (bits / 1024 % 4) as u8,
+            address: (bits / 32 % 32) as u8,
+            register: (bits % 32) as u8,
+        }
+    }
+}
+
+impl Follower {
+    pub const MOST_ONES: u8 = 32;
+    // Inside a frame at most this many bits were seen: the next one ends it.
+    pub const MOST_SEEN: u8 = 31;
+
+    // What the follower is after a clock at this level, where `enough` ones let a 0 start a frame.
+    pub fn follow(self, enough: u8, level: bool) -> Follower
+        ensures { λ r. ⌜ r ≡ follow enough level self ⌝ }
+    {
+        match self {
+            Follower::Hunting(ones) => {
+                if level {
+                    if ones < Follower::MOST_ONES {
+                        Follower::Hunting(ones + 1)
+                    } else {
+                        Follower::Hunting(Follower::MOST_ONES)
+                    }
+                } else if enough <= ones {
+                    Follower::Inside(1, 0)
+                } else {
+                    Follower::Hunting(0)
+                }
+            }
+            Follower::Inside(seen, bits) => {
+                if seen >= Follower::MOST_SEEN {
+                    return Follower::Hunting(0);
+                }
+                let next = bits % 2147483648 * 2;
+                if level {
+                    Follower::Inside(seen + 1, next + 1)
+                } else if seen == 1 {
+                    Follower::Hunting(0)
+                } else {
+                    Follower::Inside(seen + 1, next)
+                }
+            }
+        }
+    }
+}
