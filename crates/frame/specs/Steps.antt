@@ -23,21 +23,23 @@ release = 2
 abbrev pub releaseAndSample : ℕ
 releaseAndSample = 3
 
--- the table's rows; where write and read differ the row goes by whether it is a read
+-- the table's columns: what stands for a write, and for a read
+abbrev pub column : {A : Type 0} → Bool → A → A → A
+column false forWrite forRead = forWrite
+column true forWrite forRead = forRead
+
+-- the table's rows
 abbrev pub startSteps : List ℕ
 startSteps = driveZero ∷ driveOne ∷ []
 
 abbrev pub opSteps : Bool → List ℕ
-opSteps false = driveZero ∷ driveOne ∷ []
-opSteps true = driveOne ∷ driveZero ∷ []
+opSteps reads = column reads driveZero driveOne ∷ column reads driveOne driveZero ∷ []
 
 abbrev pub turnaroundSteps : Bool → List ℕ
-turnaroundSteps false = driveOne ∷ driveZero ∷ []
-turnaroundSteps true = release ∷ releaseAndSample ∷ []
+turnaroundSteps reads = column reads driveOne release ∷ column reads driveZero releaseAndSample ∷ []
 
 abbrev pub dataSteps : Bool → ℕ → List ℕ
-dataSteps false word = bits 16 word
-dataSteps true word = replicate 16 releaseAndSample
+dataSteps reads word = column reads (bits 16 word) (replicate 16 releaseAndSample)
 
 -- the table after a preamble of m ones: start, op, address, register, turnaround, data, idle
 abbrev pub table : ℕ → Transaction → List (List ℕ)

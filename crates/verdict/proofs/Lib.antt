@@ -1,3 +1,4 @@
+pub mod Bits
 pub mod Checks
 pub mod Lists
 pub mod Outputs
