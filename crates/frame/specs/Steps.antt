@@ -2,13 +2,13 @@
 use Prim.Native.Nat.{ℕ, zero, suc, _*_}
 use mathlib.Core.Bool.{Bool, true, false}
 use mathlib.Core.List.{List, [], _∷_, map}
-use lib.ListN.{getD, replicate}
+use lib.ListN.{getD, take, drop, replicate}
 use Rattle.verdict.specs.declared.Verdict.{Verdict}
 use Rattle.verdict.specs.Refusal.{andThen}
-use Rattle.verdict.specs.Bits.{bits}
+use Rattle.verdict.specs.Bits.{bits, valueOf}
 use Rattle.verdict.specs.Output.{join, roomFor, Writes}
 use Rattle.frame.specs.declared.list.Transaction.{Transaction}
-use Rattle.frame.specs.Frame.{preamble, clocks}
+use Rattle.frame.specs.Frame.{preamble, frameBits, clocks}
 use Rattle.frame.specs.List.{isRead, listVerdict, transactions}
 
 abbrev pub driveZero : ℕ
@@ -62,6 +62,10 @@ stepsOf t = join (table preamble t)
 unfoldable pub stepAt : Transaction → ℕ → ℕ
 stepAt t zero = release
 stepAt t (suc i) = getD (stepsOf t) i release
+
+-- the frame word: what the 32 bits after the preamble say where the station drives them all
+abbrev pub frameWord : Transaction → ℕ
+frameWord t = valueOf (take frameBits (drop preamble (stepsOf t)))
 
 -- the steps of a list, transaction by transaction
 abbrev pub translation : List ℕ → List ℕ

@@ -1,12 +1,11 @@
 // The log's parts and the levels in them (document 01, "Records").
 use crate::Frame;
 use crate::list::Transaction;
-ghost use mathlib.Core.Path.{_≡_};
-ghost use Rattle.frame.specs.Log.{logPart};
+ghost use Rattle.frame.specs.Log.{PartOf};
 
 // The log bytes of the k-th transaction, k from 1, as a part of the caller's own log.
 pub fn log_part(log: &[u8], k: usize) -> &[u8]
-    ensures { λ r. ⌜ now r ≡ logPart (now (log .entry)) k ⌝ }
+    ensures { λ r. ⌜ PartOf (log .entry) k r ⌝ }
 {
     if k < 1 {
         return &log[..0];

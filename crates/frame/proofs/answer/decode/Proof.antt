@@ -116,7 +116,7 @@ loop-again c =
     let k = c .before .before .before .before .before .before .before .before .loop .k in
     let puts =
     c .before .before .put .ensures
-    ∙ ap answerBytes (c .before .before .before .before .answer-in .ensures ∙ ap₂ answerIn (c .before .before .before .before .before .before .transaction-at .ensures) (c .before .before .before .before .before .log-part .ensures)) in (
+    ∙ ap answerBytes (c .before .before .before .before .answer-in .ensures ∙ ap₂ answerIn (c .before .before .before .before .before .before .transaction-at .ensures) (c .before .before .before .before .before .log-part .ensures .bytes)) in (
       omega arith,
       rw (puts, c .before .before .before .before .before .before .before .before .loop .inv .1) (piece-next 6 (piece list log) (λ j. refl) out k),
     )
