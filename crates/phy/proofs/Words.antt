@@ -1,10 +1,12 @@
 -- The code's masks (`&`, `|`) as bits of a word: a mask is taken apart from its highest bit down.
 use Prim.Native.Nat.{ℕ, zero, suc, _+_, _-_, _*_, _/_, _%_, _^_, _≤_, _<_}
 use mathlib.Core.Path.{_≡_, refl, sym, ap, ap₂, _∙_}
-use mathlib.Core.Bool.{Bool, true, false, not, _||_, cond}
+use mathlib.Core.Bool.{Bool, true, false, not, _&&_, _||_, cond, or-assoc, or-false}
+use mathlib.Core.List.{List, [], _∷_}
 use native.Mathlib.Omega.{arith}
-use native.Mathlib.Nat.{zero-mul, zero-add, one-mul, mul-one, add-zero, mod-lt, mod-eq-of-lt, le-trans}
-use lib.Dec.{eqb}
+use native.Mathlib.Nat.{zero-mul, zero-add, one-mul, mul-one, add-zero, mod-lt, mod-one, mod-eq-of-lt, pow-suc, add-comm}
+use native.Mathlib.Numerals.{add-one}
+use lib.Dec.{T, eqb, ltb, ltb→lt}
 use lib.Pow.{pow-pos, split, mod-pow-add}
 use lib.Bits.{bitAnd, bitOr, and-block, and-mask, and-zero-r, and-le-l, or-add-and}
 use borrow.Author.Tests.{eq-eqb, ne-eqb, eqb-true, eqb-false}
@@ -66,14 +68,54 @@ one-false i w none = go (bit i w) (bit-lt i w) (and-bit i w)
     go (suc zero) h and = absurd (omega (arith, and ∙ one-mul (2 ^ i), none, pow-pos i))
     go (suc (suc b)) h and = absurd (omega arith)
 
--- `word & mask != 0` is: the mask's highest bit, or the rest
-pub has-cons : (i m w : ℕ) → m < 2 ^ i → not (eqb (bitAnd w (2 ^ i + m)) 0) ≡ (one i w || not (eqb (bitAnd w m) 0))
-has-cons i m w below = ap (λ (x : ℕ). not (eqb x 0)) (and-cons i m w below) ∙ go (bit i w) (bit-lt i w)
+-- a mask by its bits, highest first; each is above the mask of those after it
+abbrev pub maskOf : List ℕ → ℕ
+maskOf [] = 0
+maskOf (i ∷ is) = 2 ^ i + maskOf is
+
+abbrev pub falling : List ℕ → Bool
+falling [] = true
+falling (i ∷ is) = ltb (maskOf is) (2 ^ i) && falling is
+
+-- the bits of a word that a mask keeps
+abbrev pub keptOf : List ℕ → ℕ → ℕ
+keptOf [] w = 0
+keptOf (i ∷ is) w = bit i w * 2 ^ i + keptOf is w
+
+abbrev pub anyOr : List ℕ → ℕ → Bool → Bool
+anyOr [] w x = x
+anyOr (i ∷ is) w x = one i w || anyOr is w x
+
+split-falling : (a b : Bool) → T (a && b) → T a × T b
+split-falling true b t = (tt, t)
+split-falling false b t = absurd t
+
+-- `word & mask`
+pub and-mask-of : (is : List ℕ) (w : ℕ) → T (falling is) → bitAnd w (maskOf is) ≡ keptOf is w
+and-mask-of [] w t = and-zero-r w
+and-mask-of (i ∷ is) w t =
+    let parts = split-falling (ltb (maskOf is) (2 ^ i)) (falling is) t in
+    and-cons i (maskOf is) w (ltb→lt (maskOf is) (2 ^ i) (parts .0))
+    ∙ ap (λ (x : ℕ). bit i w * 2 ^ i + x) (and-mask-of is w (parts .1))
+
+-- `word & mask != 0`, or something else
+pub has-any : (is : List ℕ) (w : ℕ) (x : Bool) → T (falling is) → (not (eqb (bitAnd w (maskOf is)) 0) || x) ≡ anyOr is w x
+has-any is w x t = ap (λ (n : ℕ). not (eqb n 0) || x) (and-mask-of is w t) ∙ go is
   where
-    go : (b : ℕ) → b < 2 → not (eqb (b * 2 ^ i + bitAnd w m) 0) ≡ (eqb b 1 || not (eqb (bitAnd w m) 0))
-    go zero h = simp (zero-mul, zero-add)
-    go (suc zero) h = rw (one-mul, ne-eqb (2 ^ i + bitAnd w m) 0 (λ none. omega (arith, none, pow-pos i)))
-    go (suc (suc b)) h = absurd (omega arith)
+    bit-or : (i n b : ℕ) → b < 2 → not (eqb (b * 2 ^ i + n) 0) ≡ (eqb b 1 || not (eqb n 0))
+    bit-or i n zero h = simp (zero-mul, zero-add)
+    bit-or i n (suc zero) h = rw (one-mul, ne-eqb (2 ^ i + n) 0 (λ none. omega (arith, none, pow-pos i)))
+    bit-or i n (suc (suc b)) h = absurd (omega arith)
+    go : (is : List ℕ) → (not (eqb (keptOf is w) 0) || x) ≡ anyOr is w x
+    go [] = refl
+    go (i ∷ is) =
+        ap (λ (b : Bool). b || x) (bit-or i (keptOf is w) (bit i w) (bit-lt i w))
+        ∙ or-assoc (one i w) (not (eqb (keptOf is w) 0)) x
+        ∙ ap (λ (b : Bool). one i w || b) (go is)
+
+-- a mask alone
+pub has-these : (is : List ℕ) (w : ℕ) → T (falling is) → not (eqb (bitAnd w (maskOf is)) 0) ≡ anyOr is w false
+has-these is w t = sym (or-false (not (eqb (bitAnd w (maskOf is)) 0))) ∙ has-any is w false t
 
 pub has-bit : (i w : ℕ) → not (eqb (bitAnd w (2 ^ i)) 0) ≡ one i w
 has-bit i w = ap (λ (x : ℕ). not (eqb x 0)) (and-bit i w) ∙ go (bit i w) (bit-lt i w)
@@ -82,3 +124,51 @@ has-bit i w = ap (λ (x : ℕ). not (eqb x 0)) (and-bit i w) ∙ go (bit i w) (b
     go zero h = simp zero-mul
     go (suc zero) h = rw (one-mul, ne-eqb (2 ^ i) 0 (λ none. omega (arith, none, pow-pos i)))
     go (suc (suc b)) h = absurd (omega arith)
+
+-- Words bit by bit
+pub wordOf-lt : (n : ℕ) (f : ℕ → ℕ) → ((i : ℕ) → f i < 2) → wordOf n f < 2 ^ n
+unfolding wordOf
+wordOf-lt zero f h = omega arith
+wordOf-lt (suc n) f h = rw pow-suc (go (f n) (h n) (wordOf-lt n f h))
+  where
+    go : (b : ℕ) → b < 2 → wordOf n f < 2 ^ n → b * 2 ^ n + wordOf n f < 2 ^ n * 2
+    go zero k l = rw zero-mul (omega arith)
+    go (suc zero) k l = rw one-mul (omega arith)
+    go (suc (suc b)) k l = absurd (omega arith)
+
+-- "masked bits take the data, others stay": one bit more
+mod-suc : (n w : ℕ) → w % 2 ^ suc n ≡ bit n w * 2 ^ n + w % 2 ^ n
+mod-suc n w = ap (λ (k : ℕ). w % 2 ^ k) (sym (add-one n) ∙ add-comm n 1) ∙ mod-pow-add w 1 n
+
+module _ (mask old word : ℕ) where
+  abbrev pick : ℕ → ℕ
+  pick i = cond (one i mask) (bit i word) (bit i old)
+
+  merge : (n : ℕ) → old % 2 ^ n - bitAnd old (mask % 2 ^ n) + bitAnd word (mask % 2 ^ n) ≡ wordOf n pick
+  unfolding wordOf
+  merge zero = simp (mod-one, and-zero-r)
+  merge (suc n) =
+      rw (mod-suc n old, mod-suc n mask) (go (bit n mask) (bit-lt n mask) ∙ ap (λ (x : ℕ). pick n * 2 ^ n + x) (merge n))
+    where
+      below : mask % 2 ^ n < 2 ^ n
+      below = mod-lt mask (pow-pos n)
+      inside : bitAnd old (mask % 2 ^ n) ≤ old % 2 ^ n
+      inside = rw (and-low n (mask % 2 ^ n) old below) (and-le-l (old % 2 ^ n) (mask % 2 ^ n))
+      go : (b : ℕ) → b < 2 → bit n old * 2 ^ n + old % 2 ^ n - bitAnd old (b * 2 ^ n + mask % 2 ^ n) + bitAnd word (b * 2 ^ n + mask % 2 ^ n)
+          ≡ cond (eqb b 1) (bit n word) (bit n old) * 2 ^ n + (old % 2 ^ n - bitAnd old (mask % 2 ^ n) + bitAnd word (mask % 2 ^ n))
+      go zero h = simp (zero-mul, zero-add) (omega (arith, inside))
+      go (suc zero) h =
+          rw (one-mul (2 ^ n), and-cons n (mask % 2 ^ n) old below, and-cons n (mask % 2 ^ n) word below) (omega arith)
+      go (suc (suc b)) h = absurd (omega arith)
+
+  -- the code's `old - (old & mask) + (word & mask)`
+  pub merge-word : (n : ℕ) → mask < 2 ^ n → old < 2 ^ n → old - bitAnd old mask + bitAnd word mask ≡ wordOf n pick
+  merge-word n m o =
+      ap₂ (λ (x y : ℕ). x - bitAnd old y + bitAnd word y) (sym (mod-eq-of-lt o)) (sym (mod-eq-of-lt m)) ∙ merge n
+
+  pub picked-lt : (n : ℕ) → wordOf n pick < 2 ^ n
+  picked-lt n = wordOf-lt n pick (λ i. go i (one i mask))
+    where
+      go : (i : ℕ) (t : Bool) → cond t (bit i word) (bit i old) < 2
+      go i true = bit-lt i word
+      go i false = bit-lt i old

@@ -15,14 +15,12 @@ use wire::Header;
 impl Phy {
     // The ones that a PHY which accepts suppressed preambles needs before a frame.
     pub const SUPPRESSED_ONES: u8 = 1;
-    // The bits of a frame that are seen before the word is driven: 0 is driven for bit 16.
-    const SEEN_BEFORE_HEADER_ENDS: u8 = 13;
+    // The bits of a frame that are seen before its header's last one, and with it.
+    const BEFORE_HEADER: u8 = 13;
 
-    const SEEN_AT_HEADER: u8 = 14;
-
-    const SEEN_AT_ZERO: u8 = 15;
-
-    const SEEN_AT_LAST: u8 = 31;
+    const HEADER: u8 = 14;
+    // The bits seen before the clock in which an answer starts: it drives 0 for bit 16.
+    const BEFORE_ANSWER: u8 = 15;
 
     // As a load leaves it: hunting with 0 ones, link down, registers at default.
     pub fn fresh(address: u8, implemented: u32, defaults: [u16; 32], masks: [u16; 32]) -> Phy
@@ -62,16 +60,15 @@ impl Phy {
     pub fn answers(self, header: Header) -> bool
         ensures { λ r. ⌜ r ≡ answers header self ⌝ }
     {
-        header.op == Transaction::READ
-            && self.takes(header.address)
-            && self.implements(header.register)
+        (header.op == Transaction::READ)
+            & (self.takes(header.address) & self.implements(header.register))
     }
 
     // Whether a header is an own write.
     pub fn stores(self, header: Header) -> bool
         ensures { λ r. ⌜ r ≡ stores header self ⌝ }
     {
-        header.op == Transaction::WRITE && self.takes(header.address)
+        (header.op == Transaction::WRITE) & self.takes(header.address)
     }
 
     fn with_follower(self, follower: Follower) -> Phy
@@ -120,17 +117,15 @@ impl Phy {
         }
     }
 
-    // What is driven of a captured word after this many frame bits.
+    // What an answer drives after this many frame bits: 0 for bit 16, then the captured word.
     fn answer_bit(seen: u8, captured: u16) -> Drive
+        requires { ⌜ (15 ≤ seen) × (seen ≤ 31) ⌝ }
         ensures { λ r. ⌜ r ≡ answerBit seen captured ⌝ }
     {
-        if seen == Phy::SEEN_AT_ZERO {
+        if seen == Phy::BEFORE_ANSWER {
             return Drive::Driven(false);
         }
-        if seen <= Phy::SEEN_AT_ZERO || seen > Phy::SEEN_AT_LAST {
-            return Drive::Released;
-        }
-        Drive::Driven((captured >> (Phy::SEEN_AT_LAST - seen)) % 2 == 1)
+        Drive::Driven((captured >> (Follower::MOST_SEEN - seen)) % 2 == 1)
     }
 
     // What the PHY drives in the next clock.
@@ -141,10 +136,13 @@ impl Phy {
         let Follower::Inside(seen, bits) = follower else {
             return Drive::Released;
         };
-        if seen < Phy::SEEN_AT_ZERO || seen > Phy::SEEN_AT_LAST {
+        if seen < Phy::BEFORE_ANSWER {
             return Drive::Released;
         }
-        let header = Header::of(bits >> (seen - Phy::SEEN_AT_HEADER));
+        if seen > Follower::MOST_SEEN {
+            return Drive::Released;
+        }
+        let header = Header::of(bits >> (seen - Phy::HEADER));
         if self.answers(header) {
             Phy::answer_bit(seen, self.captured)
         } else {
@@ -169,8 +167,8 @@ impl Phy {
         ensures { λ r. ⌜ r ≡ acts seen bits self ⌝ }
     {
         match seen {
-            Phy::SEEN_BEFORE_HEADER_ENDS => self.at_header(Header::of(bits)),
-            Phy::SEEN_AT_LAST => {
+            Phy::BEFORE_HEADER => self.at_header(Header::of(bits)),
+            Follower::MOST_SEEN => {
                 let header = Header::of(bits / 262144);
                 let word = (bits % 65536) as u16;
                 self.after_frame(header, word).with_captured(0)

@@ -138,10 +138,13 @@ impl Control {
     pub fn status_after(status: u16, word: u16) -> u16
         ensures { λ r. ⌜ r ≡ newStatus status word ⌝ }
     {
-        if Control::enable(status, word) == 0 || word & Control::RESTART_AUTO_NEGOTIATION != 0 {
-            status - (status & Status::AUTO_NEGOTIATION_COMPLETE)
-        } else {
-            status
+        let cleared = status - (status & Status::AUTO_NEGOTIATION_COMPLETE);
+        if Control::enable(status, word) == 0 {
+            return cleared;
         }
+        if word & Control::RESTART_AUTO_NEGOTIATION != 0 {
+            return cleared;
+        }
+        status
     }
 }

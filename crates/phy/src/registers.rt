@@ -90,7 +90,10 @@ impl Phy {
     pub fn after_write(self, register: u8, word: u16) -> Phy
         ensures { λ r. ⌜ r ≡ afterWrite register word self ⌝ }
     {
-        if !self.implements(register) || self.in_reset() {
+        if !self.implements(register) {
+            return self;
+        }
+        if self.in_reset() {
             return self;
         }
         match register {

@@ -73,13 +73,13 @@ impl Status {
     pub fn able_full(status: u16, extended: u16) -> bool
         ensures { λ r. ⌜ r ≡ ableFull status extended ⌝ }
     {
-        status & Status::FULL != 0 || extended & ExtendedStatus::FULL != 0
+        (status & Status::FULL != 0) | (extended & ExtendedStatus::FULL != 0)
     }
 
     pub fn able_half(status: u16, extended: u16) -> bool
         ensures { λ r. ⌜ r ≡ ableHalf status extended ⌝ }
     {
-        status & Status::HALF != 0 || extended & ExtendedStatus::HALF != 0
+        (status & Status::HALF != 0) | (extended & ExtendedStatus::HALF != 0)
     }
 
     // The status after it was read: the latches of remote fault and jabber clear, and the held link is the link.

@@ -1,29 +1,27 @@
+-- A read of register 1 holds the link anew; no other read has an effect.
+use mathlib.Core.Path.{_≡_, refl, sym, ap, ap₂, _∙_}
+use borrow.Author.Tests.{eq-eqb, ne-eqb}
+use Rattle.phy.specs.Registers.{afterRead, readStatus}
 use borrow.Author.Needs.{needs}
 use Rattle.phy.proofs.Phy.after_read.Statement.{statement}
 use Rattle.phy.proofs.Phy.after_read.Tie as tie
-use Rattle.phy.proofs.Phy.after_read.Reads as reads
-use Rattle.phy.proofs.Phy.after_read.Lts as lts
-use Rattle.phy.proofs.status.Status.read.Reads as read-reads
 
--- src/registers.rt:45:46
 element-copy-out-read : tie.Need-element-copy-out-read
 element-copy-out-read c = search needs
 
--- src/registers.rt:45:33
 read-requires : tie.Need-read-requires
 read-requires c κs = search needs
 
--- src/registers.rt:45:13
 element-write-self : tie.Need-element-write-self
 element-write-self c = search needs
 
--- src/registers.rt:41:5
 returns : tie.Need-returns
-returns c = ?
+unfolding afterRead readStatus
+returns c = rw (eq-eqb _ 1 (c .before .before .if1 .taken), c .read .ensures)
 
--- src/registers.rt:41:5
 returns-2 : tie.Need-returns-2
-returns-2 c = ?
+unfolding afterRead
+returns-2 c = rw (ne-eqb _ 1 (c .if1 .left))
 
 pub after-read-spec : {M : Type 1} → statement M
 after-read-spec =

@@ -8,25 +8,21 @@ use Rattle.phy.proofs.Phy.answer_bit.Lts as lts
 returns : tie.Need-returns
 returns c = ?
 
--- src/clock.rt:131:13
+-- src/clock.rt:130:37
+sub-t4 : tie.Need-sub-t4
+sub-t4 c = search needs
+
+-- src/clock.rt:130:37
+cast-t5 : tie.Need-cast-t5
+cast-t5 c = search needs
+
+-- src/clock.rt:130:24
+shr-t6 : tie.Need-shr-t6
+shr-t6 c = search needs
+
+-- src/clock.rt:123:5
 returns-2 : tie.Need-returns-2
 returns-2 c = ?
 
--- src/clock.rt:133:37
-sub-t6 : tie.Need-sub-t6
-sub-t6 c = search needs
-
--- src/clock.rt:133:37
-cast-t7 : tie.Need-cast-t7
-cast-t7 c = search needs
-
--- src/clock.rt:133:24
-shr-t8 : tie.Need-shr-t8
-shr-t8 c = search needs
-
--- src/clock.rt:124:5
-returns-3 : tie.Need-returns-3
-returns-3 c = ?
-
 pub answer-bit-spec : {M : Type 1} → statement M
-answer-bit-spec = tie.close (tie.spec returns returns-2 sub-t6 cast-t7 shr-t8 returns-3)
+answer-bit-spec = tie.close (tie.spec returns sub-t4 cast-t5 shr-t6 returns-2)

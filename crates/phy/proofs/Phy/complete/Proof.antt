@@ -1,29 +1,28 @@
+-- Bits 0.12 and 0.9 decide.
+use mathlib.Core.Path.{_≡_, refl, sym, ap, ap₂, _∙_}
+use Rattle.phy.specs.Events.{completes}
+use Rattle.phy.proofs.Words.{one-true, one-false, or-bit}
 use borrow.Author.Needs.{needs}
 use Rattle.phy.proofs.Phy.complete.Statement.{statement}
 use Rattle.phy.proofs.Phy.complete.Tie as tie
-use Rattle.phy.proofs.Phy.complete.Reads as reads
-use Rattle.phy.proofs.Phy.complete.Lts as lts
-use Rattle.phy.proofs.Phy.set_status.Reads as set-status-reads
 
--- src/events.rt:62:23
 element-copy-out-control : tie.Need-element-copy-out-control
 element-copy-out-control c = search needs
 
--- src/events.rt:64:13
 returns : tie.Need-returns
-returns c = ?
+unfolding completes
+returns c = rw (one-false 12 _ (c .if1 .taken))
 
--- src/events.rt:67:13
 returns-2 : tie.Need-returns-2
-returns-2 c = ?
+unfolding completes
+returns-2 c = rw (one-true 12 _ (c .before .if1 .left), one-true 9 _ (c .if2 .taken))
 
--- src/events.rt:69:9
 set-status-requires : tie.Need-set-status-requires
 set-status-requires c κs = search needs
 
--- src/events.rt:59:5
 returns-3 : tie.Need-returns-3
-returns-3 c = ?
+unfolding completes
+returns-3 c = rw (one-true 12 _ (c .before .before .if1 .left), one-false 9 _ (c .before .if2 .left), ← or-bit 5) (c .set-status .ensures)
 
 pub complete-spec : {M : Type 1} → statement M
 complete-spec =

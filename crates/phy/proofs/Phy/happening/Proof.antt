@@ -1,3 +1,8 @@
+-- Each number has its own line; no other number changes anything.
+use mathlib.Core.Path.{_≡_, refl, sym, ap, ap₂, _∙_}
+use borrow.Author.Tests.{eq-eqb, ne-eqb}
+use Rattle.phy.specs.Events.{happening}
+use Rattle.phy.proofs.Words.{or-bit, clear-bit}
 use borrow.Author.Needs.{needs}
 use Rattle.phy.proofs.Phy.happening.Statement.{statement}
 use Rattle.phy.proofs.Phy.happening.Tie as tie
@@ -9,67 +14,52 @@ use Rattle.phy.proofs.Phy.complete.Reads as complete-reads
 use Rattle.phy.proofs.Phy.set_status.Reads as set-status-reads
 use Rattle.phy.proofs.Phy.with_link.Reads as with-link-reads
 
--- src/events.rt:77:31
 with-link-requires : tie.Need-with-link-requires
 with-link-requires c κs = search needs
 
--- src/events.rt:78:33
 clear-status-requires : tie.Need-clear-status-requires
 clear-status-requires c κs = search needs
 
--- src/events.rt:78:33
 with-link-requires-2 : tie.Need-with-link-requires-2
 with-link-requires-2 c κs = search needs
 
--- src/events.rt:79:36
 set-status-requires : tie.Need-set-status-requires
 set-status-requires c κs = search needs
 
--- src/events.rt:80:30
 set-status-requires-2 : tie.Need-set-status-requires-2
 set-status-requires-2 c κs = search needs
 
--- src/events.rt:81:44
 complete-requires : tie.Need-complete-requires
 complete-requires c κs = search needs
 
--- src/events.rt:82:36
 clear-control-requires : tie.Need-clear-control-requires
 clear-control-requires c κs = search needs
 
--- src/events.rt:83:34
 clear-control-requires-2 : tie.Need-clear-control-requires-2
 clear-control-requires-2 c κs = search needs
 
--- src/events.rt:73:5
 returns : tie.Need-returns
-returns c = ?
+unfolding happening
+returns c = rw (eq-eqb _ 1 (c .before .match .keys1)) (c .with-link .ensures)
 
--- src/events.rt:73:5
 returns-2 : tie.Need-returns-2
 returns-2 c = ?
 
--- src/events.rt:73:5
 returns-3 : tie.Need-returns-3
 returns-3 c = ?
 
--- src/events.rt:73:5
 returns-4 : tie.Need-returns-4
 returns-4 c = ?
 
--- src/events.rt:73:5
 returns-5 : tie.Need-returns-5
 returns-5 c = ?
 
--- src/events.rt:73:5
 returns-6 : tie.Need-returns-6
 returns-6 c = ?
 
--- src/events.rt:73:5
 returns-7 : tie.Need-returns-7
 returns-7 c = ?
 
--- src/events.rt:73:5
 returns-8 : tie.Need-returns-8
 returns-8 c = ?
 

@@ -1,19 +1,25 @@
+-- Masked bits leave and the word's come, bit by bit.
+use Prim.Native.Nat.{_<_}
+use mathlib.Core.Bool.{cond}
+use Rattle.phy.specs.Words.{wordOf}
+use borrow.Author.Needs.{needs}
+use mathlib.Core.Path.{_≡_, refl, sym, ap, _∙_}
+use lib.Bits.{and-le-l}
+use native.Mathlib.Omega.{arith}
+use Rattle.phy.specs.Registers.{masked}
+use Rattle.phy.proofs.Words.{merge-word, picked-lt}
 use Rattle.phy.proofs.Phy.merged.Statement.{statement}
 use Rattle.phy.proofs.Phy.merged.Tie as tie
-use Rattle.phy.proofs.Phy.merged.Reads as reads
-use Rattle.phy.proofs.Phy.merged.Lts as lts
 
--- src/registers.rt:77:9
 sub-result : tie.Need-sub-result
-sub-result c = ?
+sub-result c = and-le-l _ _
 
--- src/registers.rt:77:9
 add-result : tie.Need-add-result
-add-result c = ?
+add-result c = record { fits = rw (merge-word (c .args .mask) (c .args .old) (c .args .word) 16 (search needs) (search needs)) (picked-lt (c .args .mask) (c .args .old) (c .args .word) 16) }
 
--- src/registers.rt:74:5
 returns : tie.Need-returns
-returns c = ?
+unfolding masked
+returns c = merge-word _ _ _ 16 (search needs) (search needs)
 
 pub merged-spec : {M : Type 1} → statement M
 merged-spec = tie.close (tie.spec sub-result add-result returns)

@@ -1,21 +1,16 @@
+-- The code asks what `stores` asks, in its order.
+use mathlib.Core.Path.{_≡_, refl, sym, ap, _∙_}
+use Rattle.phy.specs.Clock.{stores}
 use borrow.Author.Needs.{needs}
 use Rattle.phy.proofs.Phy.stores.Statement.{statement}
 use Rattle.phy.proofs.Phy.stores.Tie as tie
-use Rattle.phy.proofs.Phy.stores.Reads as reads
-use Rattle.phy.proofs.Phy.stores.Lts as lts
-use Rattle.phy.proofs.Phy.takes.Reads as takes-reads
 
--- src/clock.rt:74:44
 takes-requires : tie.Need-takes-requires
 takes-requires c κs = search needs
 
--- src/clock.rt:71:5
 returns : tie.Need-returns
-returns c = ?
-
--- src/clock.rt:71:5
-returns-2 : tie.Need-returns-2
-returns-2 c = ?
+unfolding stores
+returns c = rw (c .takes .ensures)
 
 pub stores-spec : {M : Type 1} → statement M
-stores-spec = tie.close (tie.spec takes-requires returns returns-2)
+stores-spec = tie.close (tie.spec takes-requires returns)

@@ -1,30 +1,32 @@
+-- Two abilities or none store the bit, one fixes it.
+use Rattle.phy.proofs.NewBits.{duplex-stored, duplex-fixed}
+use mathlib.Core.Path.{_≡_, refl, sym, ap, _∙_}
+use native.Mathlib.Omega.{arith}
+use borrow.Author.Tests.{eq-eqb, ne-eqb}
+use Rattle.phy.specs.Control.{newBit8}
+use Rattle.phy.proofs.Words.{and-bit, one-true, one-false}
+
 use borrow.Author.Needs.{needs}
 use Rattle.phy.proofs.control.Control.duplex.Statement.{statement}
 use Rattle.phy.proofs.control.Control.duplex.Tie as tie
-use Rattle.phy.proofs.control.Control.duplex.Reads as reads
-use Rattle.phy.proofs.control.Control.duplex.Lts as lts
-use Rattle.phy.proofs.status.Status.able_full.Reads as able-full-reads
-use Rattle.phy.proofs.status.Status.able_half.Reads as able-half-reads
 
--- src/control.rt:103:13
 able-full-requires : tie.Need-able-full-requires
 able-full-requires c κs = search needs
 
--- src/control.rt:104:13
 able-half-requires : tie.Need-able-half-requires
 able-half-requires c κs = search needs
 
--- src/control.rt:100:5
 returns : tie.Need-returns
-returns c = ?
+unfolding newBit8
+returns c = rw (← c .before .before .able-full .ensures, ← c .before .able-half .ensures, duplex-stored _ _ _ (c .if1 .taken)) (and-bit 8 _)
 
--- src/control.rt:100:5
 returns-2 : tie.Need-returns-2
-returns-2 c = ?
+unfolding newBit8
+returns-2 c = rw (← c .before .before .before .able-full .ensures, ← c .before .before .able-half .ensures, duplex-fixed _ _ _ (c .before .if1 .left), c .if2 .taken)
 
--- src/control.rt:100:5
 returns-3 : tie.Need-returns-3
-returns-3 c = ?
+unfolding newBit8
+returns-3 c = rw (← c .before .before .before .able-full .ensures, ← c .before .before .able-half .ensures, duplex-fixed _ _ _ (c .before .if1 .left), c .if2 .left)
 
 pub duplex-spec : {M : Type 1} → statement M
 duplex-spec =

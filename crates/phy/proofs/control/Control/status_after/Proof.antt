@@ -1,25 +1,32 @@
+-- 1.5 clears where bit 12 stays zero or 9 is written one.
+use mathlib.Core.Path.{_≡_, refl, sym, ap, _∙_}
+use native.Mathlib.Omega.{arith}
+use borrow.Author.Tests.{eq-eqb, ne-eqb}
+use mathlib.Core.Bool.{or-true}
+use lib.Bits.{and-le-l}
+use Rattle.phy.specs.Control.{newBit12, newStatus}
+use Rattle.phy.proofs.Words.{clear-bit, one-true, one-false}
 use borrow.Author.Needs.{needs}
 use Rattle.phy.proofs.control.Control.status_after.Statement.{statement}
 use Rattle.phy.proofs.control.Control.status_after.Tie as tie
-use Rattle.phy.proofs.control.Control.status_after.Reads as reads
-use Rattle.phy.proofs.control.Control.status_after.Lts as lts
-use Rattle.phy.proofs.control.Control.enable.Reads as enable-reads
 
--- src/control.rt:141:12
+sub-cleared : tie.Need-sub-cleared
+sub-cleared c = and-le-l _ _
+
 enable-requires : tie.Need-enable-requires
 enable-requires c κs = search needs
 
--- src/control.rt:142:13
-sub-result : tie.Need-sub-result
-sub-result c = ?
-
--- src/control.rt:138:5
 returns : tie.Need-returns
-returns c = ?
+unfolding newStatus
+returns c = let off : newBit12 (c .before .before .args .status) (c .before .before .args .word) ≡ 0 = omega arith in rw (eq-eqb _ 0 off) (clear-bit 5 _)
 
--- src/control.rt:138:5
 returns-2 : tie.Need-returns-2
-returns-2 c = ?
+unfolding newStatus
+returns-2 c = let on : newBit12 (c .before .before .before .args .status) (c .before .before .before .args .word) ≡ 0 → ⊥ = omega arith in rw (ne-eqb _ 0 on, one-true 9 _ (c .if2 .taken)) (clear-bit 5 _)
+
+returns-3 : tie.Need-returns-3
+unfolding newStatus
+returns-3 c = let on : newBit12 (c .before .before .before .args .status) (c .before .before .before .args .word) ≡ 0 → ⊥ = omega arith in rw (ne-eqb _ 0 on, one-false 9 _ (c .if2 .left))
 
 pub status-after-spec : {M : Type 1} → statement M
-status-after-spec = tie.close (tie.spec enable-requires sub-result returns returns-2)
+status-after-spec = tie.close (tie.spec sub-cleared enable-requires returns returns-2 returns-3)

@@ -1,15 +1,17 @@
+-- Bit 5 is stored where 1.7 is one.
+use mathlib.Core.Path.{_≡_, refl, sym, ap, _∙_}
+use Rattle.phy.specs.Control.{newBit5}
+use Rattle.phy.proofs.Words.{and-bit, one-true, one-false}
 use Rattle.phy.proofs.control.Control.unidirectional.Statement.{statement}
 use Rattle.phy.proofs.control.Control.unidirectional.Tie as tie
-use Rattle.phy.proofs.control.Control.unidirectional.Reads as reads
-use Rattle.phy.proofs.control.Control.unidirectional.Lts as lts
 
--- src/control.rt:115:5
 returns : tie.Need-returns
-returns c = ?
+unfolding newBit5
+returns c = rw (one-true 7 _ (c .if1 .taken)) (and-bit 5 _)
 
--- src/control.rt:115:5
 returns-2 : tie.Need-returns-2
-returns-2 c = ?
+unfolding newBit5
+returns-2 c = rw (one-false 7 _ (c .if1 .left))
 
 pub unidirectional-spec : {M : Type 1} → statement M
 unidirectional-spec = tie.close (tie.spec returns returns-2)

@@ -1,15 +1,13 @@
+-- A mask is not zero exactly if one of its bits is, and either word may say it.
+use mathlib.Core.Path.{_≡_, refl, sym, ap, _∙_}
+use mathlib.Core.List.{[], _∷_}
+use mathlib.Core.Bool.{or-false}
+use Rattle.phy.proofs.Words.{anyOr, has-any, has-these}
 use Rattle.phy.proofs.status.Status.able_half.Statement.{statement}
 use Rattle.phy.proofs.status.Status.able_half.Tie as tie
-use Rattle.phy.proofs.status.Status.able_half.Reads as reads
-use Rattle.phy.proofs.status.Status.able_half.Lts as lts
 
--- src/status.rt:79:5
 returns : tie.Need-returns
-returns c = ?
-
--- src/status.rt:79:5
-returns-2 : tie.Need-returns-2
-returns-2 c = ?
+returns c = has-any (15 ∷ 13 ∷ 11 ∷ 9 ∷ []) (c .args .status) _ tt ∙ ap (anyOr (15 ∷ 13 ∷ 11 ∷ 9 ∷ []) (c .args .status)) (has-these (14 ∷ 12 ∷ []) (c .args .extended) tt ∙ simp or-false)
 
 pub able-half-spec : {M : Type 1} → statement M
-able-half-spec = tie.close (tie.spec returns returns-2)
+able-half-spec = tie.close (tie.spec returns)

@@ -1,27 +1,23 @@
+-- Each mask of one bit clears or sets that bit.
+use lib.Bits.{and-le-l}
+use Rattle.phy.proofs.Words.{clear-bit, or-bit}
 use Rattle.phy.proofs.status.Status.read.Statement.{statement}
 use Rattle.phy.proofs.status.Status.read.Tie as tie
-use Rattle.phy.proofs.status.Status.read.Reads as reads
-use Rattle.phy.proofs.status.Status.read.Lts as lts
 
--- src/status.rt:89:25
 sub-faultless : tie.Need-sub-faultless
-sub-faultless c = ?
+sub-faultless c = and-le-l _ _
 
--- src/status.rt:90:23
 sub-cleared : tie.Need-sub-cleared
-sub-cleared c = ?
+sub-cleared c = and-le-l _ _
 
--- src/status.rt:94:13
 sub-result : tie.Need-sub-result
-sub-result c = ?
+sub-result c = and-le-l _ _
 
--- src/status.rt:86:5
 returns : tie.Need-returns
-returns c = ?
+returns c = rw (c .if1 .taken, clear-bit 4, clear-bit 1, or-bit 2)
 
--- src/status.rt:86:5
 returns-2 : tie.Need-returns-2
-returns-2 c = ?
+returns-2 c = rw (c .if1 .left, clear-bit 4, clear-bit 1, clear-bit 2)
 
 pub read-spec : {M : Type 1} → statement M
 read-spec = tie.close (tie.spec sub-faultless sub-cleared sub-result returns returns-2)
