@@ -1,2 +1,4 @@
 pub mod Words
 pub mod NewBits
+pub mod Registers32
+pub mod Clocks

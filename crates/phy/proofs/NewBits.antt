@@ -6,9 +6,9 @@ use mathlib.Core.List.{[], _∷_}
 use native.Mathlib.Omega.{arith}
 use lib.Dec.{eqb}
 use lib.Bits.{bitAnd}
-use Rattle.verdict.specs.Bits.{bit}
+use Rattle.verdict.specs.Bits.{bit, shiftIn}
 use Rattle.phy.specs.Abilities.{one, ableFull, ableHalf}
-use Rattle.phy.specs.Control.{duplexBit, newBit12, newBit9, newBit8, newBit5}
+use Rattle.phy.specs.Control.{duplexBit, speedFrom, newControl, newBit12, newBit9, newBit8, newBit5}
 use Rattle.phy.proofs.Words.{bit-lt, and-mask-of}
 
 cond-lt : (test : Bool) (a b : ℕ) → a < 2 → b < 2 → cond test a b < 2
@@ -79,3 +79,20 @@ duplex-fixed true false b h = refl
 duplex-fixed false true b h = refl
 duplex-fixed true true b h = absurd (true≢false h)
 duplex-fixed false false b h = absurd (true≢false h)
+
+-- the parts that the code adds up are the new word, which fits
+pub control-parts : (status extended old word : ℕ)
+    → (bitAnd word 19584
+    + (bit 13 (speedFrom status extended old word) * 8192 + bit 6 (speedFrom status extended old word) * 64)
+    + newBit12 status word * 4096 + newBit9 status old word * 512 + newBit8 status extended word * 256
+    + newBit5 status word * 32
+    ≡ newControl status extended old word)
+    × (newControl status extended old word < 65536)
+unfolding newControl shiftIn
+control-parts status extended old word =
+    let stored = and-mask-of (14 ∷ 11 ∷ 10 ∷ 7 ∷ []) word tt in
+    let b12 = newBit12-lt status word in
+    let b9 = newBit9-lt status old word in
+    let b8 = newBit8-lt status extended word in
+    let b5 = newBit5-lt status word in
+    (omega arith, omega arith)

@@ -106,6 +106,7 @@ has-any is w x t = ap (λ (n : ℕ). not (eqb n 0) || x) (and-mask-of is w t) �
     bit-or i n zero h = simp (zero-mul, zero-add)
     bit-or i n (suc zero) h = rw (one-mul, ne-eqb (2 ^ i + n) 0 (λ none. omega (arith, none, pow-pos i)))
     bit-or i n (suc (suc b)) h = absurd (omega arith)
+
     go : (is : List ℕ) → (not (eqb (keptOf is w) 0) || x) ≡ anyOr is w x
     go [] = refl
     go (i ∷ is) =
@@ -152,8 +153,10 @@ module _ (mask old word : ℕ) where
     where
       below : mask % 2 ^ n < 2 ^ n
       below = mod-lt mask (pow-pos n)
+
       inside : bitAnd old (mask % 2 ^ n) ≤ old % 2 ^ n
       inside = rw (and-low n (mask % 2 ^ n) old below) (and-le-l (old % 2 ^ n) (mask % 2 ^ n))
+
       go : (b : ℕ) → b < 2 → bit n old * 2 ^ n + old % 2 ^ n - bitAnd old (b * 2 ^ n + mask % 2 ^ n) + bitAnd word (b * 2 ^ n + mask % 2 ^ n)
           ≡ cond (eqb b 1) (bit n word) (bit n old) * 2 ^ n + (old % 2 ^ n - bitAnd old (mask % 2 ^ n) + bitAnd word (mask % 2 ^ n))
       go zero h = simp (zero-mul, zero-add) (omega (arith, inside))

@@ -15,6 +15,11 @@ use wire::Header;
 impl Phy {
     // The ones that a PHY which accepts suppressed preambles needs before a frame.
     pub const SUPPRESSED_ONES: u8 = 1;
+    // A whole frame divided by this is its header, and its data is what is left over this: 18 bits behind the header,
+    // of which 16 are data.
+    const BEHIND_HEADER: u32 = 0x4_0000;
+
+    const BEHIND_DATA: u32 = 0x1_0000;
     // The bits of a frame that are seen before its header's last one, and with it.
     const BEFORE_HEADER: u8 = 13;
 
@@ -169,8 +174,8 @@ impl Phy {
         match seen {
             Phy::BEFORE_HEADER => self.at_header(Header::of(bits)),
             Follower::MOST_SEEN => {
-                let header = Header::of(bits / 262144);
-                let word = (bits % 65536) as u16;
+                let header = Header::of(bits / Phy::BEHIND_HEADER);
+                let word = (bits % Phy::BEHIND_DATA) as u16;
                 self.after_frame(header, word).with_captured(0)
             }
             _ => self,

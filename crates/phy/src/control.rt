@@ -36,8 +36,10 @@ impl Control {
     pub const UNIDIRECTIONAL_ENABLE: u16 = 0x0020;
 
     // The bits that a write stores as they come.
-    pub const STORED: u16 =
-        Control::LOOPBACK | Control::POWER_DOWN | Control::ISOLATE | Control::COLLISION_TEST;
+    pub const STORED: u16 = Control::LOOPBACK
+        | Control::POWER_DOWN
+        | Control::ISOLATE
+        | Control::COLLISION_TEST;
 
     // The bits of the speed, and each speed's value there.
     pub const SPEED: u16 = Control::SPEED_LSB | Control::SPEED_MSB;

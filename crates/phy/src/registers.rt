@@ -90,16 +90,14 @@ impl Phy {
     pub fn after_write(self, register: u8, word: u16) -> Phy
         ensures { λ r. ⌜ r ≡ afterWrite register word self ⌝ }
     {
-        if !self.implements(register) {
-            return self;
-        }
-        if self.in_reset() {
-            return self;
-        }
-        match register {
-            Control::REGISTER => self.write_control(word),
-            Status::REGISTER => self,
-            _ => self.write_ordinary(register, word),
+        if self.implements(register) & !self.in_reset() {
+            match register {
+                Control::REGISTER => self.write_control(word),
+                Status::REGISTER => self,
+                _ => self.write_ordinary(register, word),
+            }
+        } else {
+            self
         }
     }
 }

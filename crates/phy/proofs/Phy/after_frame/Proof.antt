@@ -1,5 +1,4 @@
 -- An own write is stored, all else does nothing.
-use mathlib.Core.Path.{_≡_, refl, sym, ap, ap₂, _∙_}
 use Rattle.phy.specs.Clock.{afterFrame}
 use borrow.Author.Needs.{needs}
 use Rattle.phy.proofs.Phy.after_frame.Statement.{statement}

@@ -1,5 +1,4 @@
 -- An own read of an implemented register has its effect, all else none.
-use mathlib.Core.Path.{_≡_, refl, sym, ap, ap₂, _∙_}
 use Rattle.phy.specs.Clock.{afterHeader}
 use borrow.Author.Needs.{needs}
 use Rattle.phy.proofs.Phy.after_header.Statement.{statement}

@@ -1,5 +1,4 @@
 -- A read of register 1 holds the link anew; no other read has an effect.
-use mathlib.Core.Path.{_≡_, refl, sym, ap, ap₂, _∙_}
 use borrow.Author.Tests.{eq-eqb, ne-eqb}
 use Rattle.phy.specs.Registers.{afterRead, readStatus}
 use borrow.Author.Needs.{needs}

@@ -1,5 +1,4 @@
 -- The code asks what `answers` asks, in its order.
-use mathlib.Core.Path.{_≡_, refl, sym, ap, _∙_}
 use Rattle.phy.specs.Clock.{answers}
 use borrow.Author.Needs.{needs}
 use Rattle.phy.proofs.Phy.answers.Statement.{statement}

@@ -1,5 +1,4 @@
 -- An answered read captures the word as it was before its effect.
-use mathlib.Core.Path.{_≡_, refl, sym, ap, ap₂, _∙_}
 use Rattle.phy.specs.Clock.{atHeader}
 use borrow.Author.Needs.{needs}
 use Rattle.phy.proofs.Phy.at_header.Statement.{statement}

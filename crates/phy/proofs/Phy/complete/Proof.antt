@@ -1,5 +1,4 @@
 -- Bits 0.12 and 0.9 decide.
-use mathlib.Core.Path.{_≡_, refl, sym, ap, ap₂, _∙_}
 use Rattle.phy.specs.Events.{completes}
 use Rattle.phy.proofs.Words.{one-true, one-false, or-bit}
 use borrow.Author.Needs.{needs}

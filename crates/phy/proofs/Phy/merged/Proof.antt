@@ -1,11 +1,6 @@
 -- Masked bits leave and the word's come, bit by bit.
-use Prim.Native.Nat.{_<_}
-use mathlib.Core.Bool.{cond}
-use Rattle.phy.specs.Words.{wordOf}
 use borrow.Author.Needs.{needs}
-use mathlib.Core.Path.{_≡_, refl, sym, ap, _∙_}
 use lib.Bits.{and-le-l}
-use native.Mathlib.Omega.{arith}
 use Rattle.phy.specs.Registers.{masked}
 use Rattle.phy.proofs.Words.{merge-word, picked-lt}
 use Rattle.phy.proofs.Phy.merged.Statement.{statement}

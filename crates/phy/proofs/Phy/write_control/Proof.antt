@@ -1,5 +1,4 @@
 -- Bit 15 resets; else registers 0 and 1 take what their rules leave.
-use mathlib.Core.Path.{_≡_, refl, sym, ap, ap₂, _∙_}
 use Rattle.phy.specs.Control.{writeControl}
 use Rattle.phy.proofs.Words.{one-true, one-false}
 use borrow.Author.Needs.{needs}

@@ -1,5 +1,4 @@
 -- The register takes the merged word.
-use mathlib.Core.Path.{_≡_, refl, sym, ap, ap₂, _∙_}
 use Rattle.phy.specs.Registers.{writeOrdinary}
 use borrow.Author.Needs.{needs}
 use Rattle.phy.proofs.Phy.write_ordinary.Statement.{statement}

@@ -1,11 +1,7 @@
 -- Two abilities or none store the bit, one fixes it.
 use Rattle.phy.proofs.NewBits.{duplex-stored, duplex-fixed}
-use mathlib.Core.Path.{_≡_, refl, sym, ap, _∙_}
-use native.Mathlib.Omega.{arith}
-use borrow.Author.Tests.{eq-eqb, ne-eqb}
 use Rattle.phy.specs.Control.{newBit8}
-use Rattle.phy.proofs.Words.{and-bit, one-true, one-false}
-
+use Rattle.phy.proofs.Words.{and-bit}
 use borrow.Author.Needs.{needs}
 use Rattle.phy.proofs.control.Control.duplex.Statement.{statement}
 use Rattle.phy.proofs.control.Control.duplex.Tie as tie

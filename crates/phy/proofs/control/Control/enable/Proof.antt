@@ -1,5 +1,4 @@
 -- Bit 12 is stored where 1.3 is one.
-use mathlib.Core.Path.{_≡_, refl, sym, ap, _∙_}
 use Rattle.phy.specs.Control.{newBit12}
 use Rattle.phy.proofs.Words.{and-bit, one-true, one-false}
 use Rattle.phy.proofs.control.Control.enable.Statement.{statement}

@@ -1,5 +1,5 @@
 -- The new bit 12 decides, then the word, then the old bit.
-use mathlib.Core.Path.{_≡_, refl, sym, ap, _∙_}
+use mathlib.Core.Path.{_≡_}
 use native.Mathlib.Omega.{arith}
 use borrow.Author.Tests.{eq-eqb, ne-eqb}
 use Rattle.phy.specs.Control.{newBit9, newBit12}

@@ -1,5 +1,4 @@
 -- Both bits come from the word where its speed is able, else from the old value.
-use mathlib.Core.Path.{_≡_, refl, sym, ap, _∙_}
 use mathlib.Core.List.{[], _∷_}
 use native.Mathlib.Omega.{arith}
 use Rattle.phy.specs.Control.{speedFrom}

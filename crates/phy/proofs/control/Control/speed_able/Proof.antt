@@ -1,9 +1,6 @@
 -- The mask of bits 6 and 13 says which speed is asked for.
 use Rattle.phy.proofs.NewBits.{speed-eleven}
-use mathlib.Core.Path.{_≡_, refl, sym, ap, _∙_}
-use mathlib.Core.List.{[], _∷_}
 use native.Mathlib.Omega.{arith}
-use Rattle.phy.proofs.Words.{and-mask-of}
 use Rattle.phy.proofs.NewBits.{speed-bits}
 use borrow.Author.Needs.{needs}
 use Rattle.phy.proofs.control.Control.speed_able.Statement.{statement}

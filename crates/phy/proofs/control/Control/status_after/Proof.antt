@@ -1,8 +1,7 @@
 -- 1.5 clears where bit 12 stays zero or 9 is written one.
-use mathlib.Core.Path.{_≡_, refl, sym, ap, _∙_}
+use mathlib.Core.Path.{_≡_}
 use native.Mathlib.Omega.{arith}
 use borrow.Author.Tests.{eq-eqb, ne-eqb}
-use mathlib.Core.Bool.{or-true}
 use lib.Bits.{and-le-l}
 use Rattle.phy.specs.Control.{newBit12, newStatus}
 use Rattle.phy.proofs.Words.{clear-bit, one-true, one-false}

@@ -1,5 +1,5 @@
 -- A mask is not zero exactly if one of its bits is.
-use mathlib.Core.Path.{_≡_, refl, sym, ap, _∙_}
+use mathlib.Core.Path.{_∙_}
 use mathlib.Core.List.{[], _∷_}
 use mathlib.Core.Bool.{or-false}
 use Rattle.phy.proofs.Words.{has-these}
