@@ -4,11 +4,11 @@ use mathlib.Core.Path.{_≡_, refl, sym, ap, ap₂, _∙_}
 use mathlib.Core.Bool.{Bool, true, false, not, _&&_, _||_, cond, or-assoc, or-false}
 use mathlib.Core.List.{List, [], _∷_}
 use native.Mathlib.Omega.{arith}
-use native.Mathlib.Nat.{zero-mul, zero-add, one-mul, mul-one, add-zero, mod-lt, mod-one, mod-eq-of-lt, pow-suc, add-comm}
+use native.Mathlib.Nat.{zero-mul, zero-add, one-mul, mul-one, add-zero, mod-lt, mod-one, mod-eq-of-lt, pow-suc, add-comm, mul-assoc, div-one}
 use native.Mathlib.Numerals.{add-one}
 use lib.Dec.{T, eqb, ltb, ltb→lt}
-use lib.Pow.{pow-pos, split, mod-pow-add}
-use lib.Bits.{bitAnd, bitOr, and-block, and-mask, and-zero-r, and-le-l, or-add-and}
+use lib.Pow.{pow-pos, pow-lt, split, mod-pow-add, shr-shr}
+use lib.Bits.{bitAnd, bitOr, and-block, and-mask, and-zero-r, and-le-l, or-add-and, or-lt}
 use borrow.Author.Tests.{eq-eqb, ne-eqb, eqb-true, eqb-false}
 use Rattle.verdict.specs.Bits.{bit}
 use Rattle.phy.specs.Abilities.{one}
@@ -175,3 +175,62 @@ module _ (mask old word : ℕ) where
       go : (i : ℕ) (t : Bool) → cond t (bit i word) (bit i old) < 2
       go i true = bit-lt i word
       go i false = bit-lt i old
+
+-- One bit changed: the change of bit i + 1 is that of bit i in the word without its lowest bit
+bit-suc : (j w : ℕ) → bit (suc j) w ≡ bit j (w / 2)
+bit-suc j w = ap (λ (x : ℕ). x % 2) (ap (λ (k : ℕ). w / 2 ^ k) (sym (add-one j) ∙ add-comm j 1) ∙ sym (shr-shr w 1 j))
+
+bit-zero : (w : ℕ) → bit 0 w ≡ w % 2
+bit-zero w = ap (λ (x : ℕ). x % 2) (div-one w)
+
+bit-le : (i w : ℕ) → bit i w * 2 ^ i ≤ w
+bit-le i w = rw and-bit at (and-le-l w (2 ^ i))
+
+module _ (change : ℕ → ℕ → ℕ) (halves : (i w : ℕ) → change (suc i) w ≡ change i (w / 2) * 2 + w % 2) where
+  other-bit : ((w : ℕ) → change 0 w / 2 ≡ w / 2) → (i j w : ℕ) → (j ≡ i → ⊥) → bit j (change i w) ≡ bit j w
+  other-bit first zero zero w h = absurd (h refl)
+  other-bit first zero (suc j) w h = rw (bit-suc j (change 0 w), bit-suc j w, first w)
+  other-bit first (suc i) zero w h = rw (bit-zero, bit-zero, halves i w) (omega arith)
+  other-bit first (suc i) (suc j) w h =
+      bit-suc j (change (suc i) w)
+      ∙ ap (bit j) (ap (λ (x : ℕ). x / 2) (halves i w) ∙ digits-half (change i (w / 2)) w)
+      ∙ other-bit first i j (w / 2) (λ e. h (ap suc e))
+      ∙ sym (bit-suc j w)
+    where
+      digits-half : (a b : ℕ) → (a * 2 + b % 2) / 2 ≡ a
+      digits-half a b = omega arith
+
+  same-bit : (v : ℕ) → ((w : ℕ) → change 0 w % 2 ≡ v) → (i w : ℕ) → bit i (change i w) ≡ v
+  same-bit v first zero w = bit-zero (change 0 w) ∙ first w
+  same-bit v first (suc i) w =
+      bit-suc i (change (suc i) w)
+      ∙ ap (bit i) (ap (λ (x : ℕ). x / 2) (halves i w) ∙ digits-half (change i (w / 2)) w)
+      ∙ same-bit v first i (w / 2)
+    where
+      digits-half : (a b : ℕ) → (a * 2 + b % 2) / 2 ≡ a
+      digits-half a b = omega arith
+
+set-halves : (i w : ℕ) → setBit (suc i) w ≡ setBit i (w / 2) * 2 + w % 2
+set-halves i w = rw (bit-suc i w, pow-suc 2 i, ← mul-assoc) (omega arith)
+
+clear-halves : (i w : ℕ) → clearBit (suc i) w ≡ clearBit i (w / 2) * 2 + w % 2
+clear-halves i w = rw (bit-suc i w, pow-suc 2 i, ← mul-assoc) (omega (arith, bit-le i (w / 2)))
+
+pub set-other : (i j w : ℕ) → (j ≡ i → ⊥) → bit j (setBit i w) ≡ bit j w
+set-other = other-bit setBit set-halves (λ w. omega arith)
+
+pub clear-other : (i j w : ℕ) → (j ≡ i → ⊥) → bit j (clearBit i w) ≡ bit j w
+clear-other = other-bit clearBit clear-halves (λ w. omega arith)
+
+pub set-same : (i w : ℕ) → bit i (setBit i w) ≡ 1
+set-same = same-bit setBit set-halves 1 (λ w. omega arith)
+
+pub clear-same : (i w : ℕ) → bit i (clearBit i w) ≡ 0
+clear-same = same-bit clearBit clear-halves 0 (λ w. omega arith)
+
+-- a word stays a word
+pub clear-lt : (i n w : ℕ) → w < 2 ^ n → clearBit i w < 2 ^ n
+clear-lt i n w h = omega arith
+
+pub set-lt : (i n w : ℕ) → i < n → w < 2 ^ n → setBit i w < 2 ^ n
+set-lt i n w h l = rw or-bit at (or-lt n w (2 ^ i) l (pow-lt h))

@@ -5,3 +5,4 @@ pub mod Control
 pub mod Registers
 pub mod Events
 pub mod Clock
+pub mod Typed
