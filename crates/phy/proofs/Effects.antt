@@ -23,6 +23,7 @@ use Rattle.phy.specs.Clock.{answers, stores, takes, afterHeader, afterFr
 use Rattle.phy.specs.Typed.{Words, Typed, StatusFixed}
 use Rattle.phy.proofs.Words.{set-other, clear-other, set-lt, clear-lt, picked-lt}
 use Rattle.phy.proofs.NewBits.{control-parts}
+use Rattle.phy.proofs.Held.{held-others}
 
 -- what the effects keep: they neither see nor touch follower and captured word; they leave all but registers and link; register 1 stays fixed but for its held bits; words stay words
 pub record Effect (f : Phy → Phy) : Type 0 where
@@ -50,12 +51,15 @@ either test same f g ef eg =
         → cond t (f (withLine l w phy)) (g (withLine l w phy)) ≡ withLine l w (cond t (f phy) (g phy))
     blinds l w phy true = ef .blind l w phy
     blinds l w phy false = eg .blind l w phy
+
     banks : (phy : Phy) (t : Bool) → cond t (f phy) (g phy) ≡ withBank (cond t (f phy) (g phy) .registers) (cond t (f phy) (g phy) .link) phy
     banks phy true = ef .bank phy
     banks phy false = eg .bank phy
+
     fixes : (phy : Phy) → StatusFixed phy → (t : Bool) → StatusFixed (cond t (f phy) (g phy))
     fixes phy h true = ef .fixed phy h
     fixes phy h false = eg .fixed phy h
+
     types : (phy : Phy) → Words (phy .defaults) → Words (phy .registers) → (t : Bool) → Words (cond t (f phy) (g phy) .registers)
     types phy d r true = ef .typed phy d r
     types phy d r false = eg .typed phy d r
@@ -87,8 +91,8 @@ on-status change link kept small =
       blind = λ f w phy. refl;
       bank = λ phy. refl;
       fixed = λ phy h i n5 n4 n2 n1.
-        stored (λ x. bit i x ≡ bit i (defaultOf 1 phy)) (phy .registers) 1 (change (phy .link) (registerOf 1 phy)) 1
-        (kept (phy .link) (registerOf 1 phy) i n5 n4 n2 n1 ∙ h i n5 n4 n2 n1) (h i n5 n4 n2 n1);
+          stored (λ x. bit i x ≡ bit i (defaultOf 1 phy)) (phy .registers) 1 (change (phy .link) (registerOf 1 phy)) 1
+          (kept (phy .link) (registerOf 1 phy) i n5 n4 n2 n1 ∙ h i n5 n4 n2 n1) (h i n5 n4 n2 n1);
       typed = λ phy d r. words-set (phy .registers) 1 (change (phy .link) (registerOf 1 phy)) r (small (phy .link) (registerOf 1 phy) (r .small 1));
     }
 
@@ -107,17 +111,13 @@ on-other r n1 change same small =
 on-link : (link : Bool) → Effect (λ phy. withBank (phy .registers) link phy)
 on-link link = record { blind = λ f w phy. refl; bank = λ phy. refl; fixed = λ phy h. h; typed = λ phy d r. r }
 
-held-kept : (l : Bool) → Kept (heldAfter l)
-held-kept true w i n5 n4 n2 n1 = set-other 2 i _ n2 ∙ clear-other 1 i _ n1 ∙ clear-other 4 i w n4
-held-kept false w i n5 n4 n2 n1 = clear-other 2 i _ n2 ∙ clear-other 1 i _ n1 ∙ clear-other 4 i w n4
-
 held-small : (l : Bool) → Small (heldAfter l)
 held-small true w h = set-lt 2 16 _ (omega arith) (clear-lt 1 16 _ (clear-lt 4 16 w h))
 held-small false w h = clear-lt 2 16 _ (clear-lt 1 16 _ (clear-lt 4 16 w h))
 
 pub readStatus-effect : Effect readStatus
 unfolding readStatus
-readStatus-effect = on-status heldAfter (λ l. l) held-kept held-small
+readStatus-effect = on-status heldAfter (λ l. l) (λ l w i n5 n4 n2 n1. held-others l w i n4 n2 n1) held-small
 
 pub afterRead-effect : (r : ℕ) → Effect (afterRead r)
 unfolding afterRead
@@ -161,14 +161,14 @@ writeControl-effect word =
       blind = λ f w phy. refl;
       bank = λ phy. refl;
       fixed = λ phy h i n5 n4 n2 n1.
-        stored (λ x. bit i x ≡ bit i (defaultOf 1 phy)) (set (phy .registers) 0 (controlAfter word phy)) 1 (newStatus (registerOf 1 phy) word) 1
-        (newStatus-kept word (registerOf 1 phy) i n5 n4 n2 n1 ∙ h i n5 n4 n2 n1)
-        (rw (getD-set-other (phy .registers) 0 1 (controlAfter word phy) 0 (omega arith)) (h i n5 n4 n2 n1));
+          stored (λ x. bit i x ≡ bit i (defaultOf 1 phy)) (set (phy .registers) 0 (controlAfter word phy)) 1 (newStatus (registerOf 1 phy) word) 1
+          (newStatus-kept word (registerOf 1 phy) i n5 n4 n2 n1 ∙ h i n5 n4 n2 n1)
+          (rw (getD-set-other (phy .registers) 0 1 (controlAfter word phy) 0 (omega arith)) (h i n5 n4 n2 n1));
       typed = λ phy d r.
-        words-set (set (phy .registers) 0 (controlAfter word phy)) 1 (newStatus (registerOf 1 phy) word)
-        (words-set (phy .registers) 0 (controlAfter word phy) r
-        (control-parts (registerOf 1 phy) (registerOf 15 phy) (registerOf 0 phy) word .1))
-        (newStatus-small word (registerOf 1 phy) (r .small 1));
+          words-set (set (phy .registers) 0 (controlAfter word phy)) 1 (newStatus (registerOf 1 phy) word)
+          (words-set (phy .registers) 0 (controlAfter word phy) r
+          (control-parts (registerOf 1 phy) (registerOf 15 phy) (registerOf 0 phy) word .1))
+          (newStatus-small word (registerOf 1 phy) (r .small 1));
     }
 
 pub writeOrdinary-effect : (r word : ℕ) → (1 ≡ r → ⊥) → Effect (writeOrdinary r word)
