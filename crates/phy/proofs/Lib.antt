@@ -7,3 +7,5 @@ pub mod Headers
 pub mod Effects
 pub mod Lines
 pub mod Keeping
+pub mod Followers
+pub mod Examples

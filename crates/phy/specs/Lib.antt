@@ -6,3 +6,4 @@ pub mod Registers
 pub mod Events
 pub mod Clock
 pub mod Typed
+pub mod Computing

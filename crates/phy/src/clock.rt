@@ -160,8 +160,9 @@ impl Phy {
         ensures { λ r. ⌜ r ≡ atHeader header self ⌝ }
     {
         if self.answers(header) {
-            let word = self.word(header.register);
-            self.after_header(header).with_captured(word)
+            let after = self.after_header(header);
+            let held = self.word(header.register);
+            after.with_captured(held)
         } else {
             self
         }

@@ -141,7 +141,8 @@ impl Control {
         ensures { λ r. ⌜ r ≡ newStatus status word ⌝ }
     {
         let cleared = status - (status & Status::AUTO_NEGOTIATION_COMPLETE);
-        if Control::enable(status, word) == 0 {
+        let enabled = Control::enable(status, word);
+        if enabled == 0 {
             return cleared;
         }
         if word & Control::RESTART_AUTO_NEGOTIATION != 0 {

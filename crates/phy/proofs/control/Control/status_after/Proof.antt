@@ -1,13 +1,16 @@
 -- 1.5 clears where bit 12 stays zero or 9 is written one.
+use borrow.Author.Needs.{needs}
+use Rattle.phy.proofs.control.Control.status_after.Statement.{statement}
+use Rattle.phy.proofs.control.Control.status_after.Tie as tie
+use Rattle.phy.proofs.control.Control.status_after.Reads as reads
+use Rattle.phy.proofs.control.Control.status_after.Lts as lts
+use Rattle.phy.proofs.control.Control.enable.Reads as enable-reads
 use mathlib.Core.Path.{_≡_}
 use native.Mathlib.Omega.{arith}
 use borrow.Author.Tests.{eq-eqb, ne-eqb}
 use lib.Bits.{and-le-l}
 use Rattle.phy.specs.Control.{newBit12, newStatus}
 use Rattle.phy.proofs.Words.{clear-bit, one-true, one-false}
-use borrow.Author.Needs.{needs}
-use Rattle.phy.proofs.control.Control.status_after.Statement.{statement}
-use Rattle.phy.proofs.control.Control.status_after.Tie as tie
 
 sub-cleared : tie.Need-sub-cleared
 sub-cleared c = and-le-l _ _
