@@ -1,0 +1,11 @@
+pub mod Words
+pub mod NewBits
+pub mod Registers32
+pub mod Clocks
+pub mod Held
+pub mod Headers
+pub mod Effects
+pub mod Lines
+pub mod Keeping
+pub mod Followers
+pub mod Examples
