@@ -1,1 +1,3 @@
 pub mod Abilities
+pub mod Record
+pub mod Sound
