@@ -1,7 +1,7 @@
 -- Document 01, "A sound board", as far as it speaks of one PHY: each clause in the document's order.
-use Prim.Native.Nat.{ℕ, zero, suc, _+_, _-_, _/_, _%_, _^_}
+use Prim.Native.Nat.{ℕ, zero, _+_, _-_, _/_, _%_, _^_}
 use mathlib.Core.Bool.{Bool, true, false, not, _&&_, _||_}
-use mathlib.Core.List.{List}
+use mathlib.Core.List.{List, []}
 use lib.ListN.{replicate}
 use lib.Dec.{leb, eqb}
 use Rattle.verdict.specs.Bits.{bit}
@@ -111,7 +111,7 @@ ownRead p header = eqb (header .op) read && (eqb (header .address) (p .address) 
 -- "in an own read of an implemented register from its 14th bit on"
 unfoldable pub answering : Phy → Follower → Bool
 answering p (Hunting ones) = false
-answering p (Inside seen bits) = leb headerBits seen && ownRead p (headerSeen seen bits)
+answering p (Inside seen bits) = leb headerBits seen && (leb seen (frameBits - 1) && ownRead p (headerSeen seen bits))
 
 -- "a captured word, of any value, only in an own read (..), else 0"
 abbrev pub capturedSound : Phy → Bool
@@ -149,7 +149,7 @@ isBlank p =
     && (zeros (p .registers) && (not (p .link) && (huntsFresh (p .follower) && eqb (p .captured) 0))))))
 
 -- "A load gives hunting, 0 ones, link down, defaults."
-unfoldable pub fresh : ℕ → ℕ → List ℕ → List ℕ → Phy
+abbrev pub fresh : ℕ → ℕ → List ℕ → List ℕ → Phy
 fresh address implemented defaults masks =
     record {
       address = address;
@@ -164,3 +164,7 @@ fresh address implemented defaults masks =
 
 unfoldable pub blank : Phy
 blank = fresh 0 0 (replicate 32 0) (replicate 32 0)
+
+-- what a list of PHYs reads past its end, where no PHY stands
+abbrev pub nowhere : Phy
+nowhere = fresh 0 0 [] []
