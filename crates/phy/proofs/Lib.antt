@@ -1,3 +1,5 @@
 pub mod Every
 pub mod Outside
 pub mod Derived
+pub mod Clauses
+pub mod Fresh
