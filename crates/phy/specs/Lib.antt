@@ -7,3 +7,5 @@ pub mod Events
 pub mod Clock
 pub mod Typed
 pub mod Computing
+pub mod Record
+pub mod Sound

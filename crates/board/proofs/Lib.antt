@@ -1,0 +1,6 @@
+pub mod Records
+pub mod Filled
+pub mod Loading
+pub mod Soundness
+pub mod LoadSound
+pub mod Unique

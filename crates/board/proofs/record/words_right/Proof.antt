@@ -1,0 +1,44 @@
+-- Each test is its clause of `wordsRight`.
+use Prim.Native.Nat.{_≤_}
+use native.Mathlib.Omega.{arith}
+use Rattle.phy.proofs.Derived.{derived-most}
+use Rattle.phy.specs.Record.{wordsRight}
+use borrow.Author.Needs.{needs}
+use Rattle.board.proofs.record.words_right.Statement.{statement}
+use Rattle.board.proofs.record.words_right.Tie as tie
+
+derived-control-requires : tie.Need-derived-control-requires
+derived-control-requires c κs = search needs
+
+able10-requires : tie.Need-able10-requires
+able10-requires c κs = search needs
+
+able100-requires : tie.Need-able100-requires
+able100-requires c κs = search needs
+
+able1000-requires : tie.Need-able1000-requires
+able1000-requires c κs = search needs
+
+mul-result : tie.Need-mul-result
+mul-result c = search needs
+
+add-result : tie.Need-add-result
+add-result c =
+    let derived : c .before .before .before .derived-control .result ≤ 12544 = rw (c .before .before .before .derived-control .ensures) (derived-most (c .before .before .before .before .args .status) (c .before .before .before .before .args .extended)) in
+    omega arith
+
+returns : tie.Need-returns
+unfolding wordsRight
+returns c = rw (c .before .before .before .derived-control .ensures, c .before .before .able10 .ensures, c .before .able100 .ensures, c .able1000 .ensures)
+
+pub words-right-spec : {M : Type 1} → statement M
+words-right-spec =
+    tie.close
+    (tie.spec
+    derived-control-requires
+    able10-requires
+    able100-requires
+    able1000-requires
+    mul-result
+    add-result
+    returns)

@@ -1,0 +1,71 @@
+-- Each test is its clause of `phySound`.
+use Rattle.phy.specs.Sound.{phySound}
+use borrow.Author.Needs.{needs}
+use Rattle.board.proofs.sound.phy_sound.Statement.{statement}
+use Rattle.board.proofs.sound.phy_sound.Tie as tie
+
+element-copy-out-control : tie.Need-element-copy-out-control
+element-copy-out-control c = search needs
+
+element-copy-out-status : tie.Need-element-copy-out-status
+element-copy-out-status c = search needs
+
+registers-stand-requires : tie.Need-registers-stand-requires
+registers-stand-requires c κs = search needs
+
+add-held : tie.Need-add-held
+add-held c = search needs
+
+add-held-2 : tie.Need-add-held-2
+add-held-2 c = search needs
+
+add-held-3 : tie.Need-add-held-3
+add-held-3 c = search needs
+
+element-copy-out-stands-outside : tie.Need-element-copy-out-stands-outside
+element-copy-out-stands-outside c = search needs
+
+stands-outside-requires : tie.Need-stands-outside-requires
+stands-outside-requires c κs = search needs
+
+control-sound-requires : tie.Need-control-sound-requires
+control-sound-requires c κs = search needs
+
+reset-stands-requires : tie.Need-reset-stands-requires
+reset-stands-requires c κs = search needs
+
+follower-sound-requires : tie.Need-follower-sound-requires
+follower-sound-requires c κs = search needs
+
+answering-requires : tie.Need-answering-requires
+answering-requires c κs = search needs
+
+returns : tie.Need-returns
+unfolding phySound
+returns c =
+    rw (
+      c .before .before .before .before .before .before .registers-stand .ensures,
+      c .before .before .before .before .stands-outside .ensures,
+      c .before .before .before .control-sound .ensures,
+      c .before .before .reset-stands .ensures,
+      c .before .follower-sound .ensures,
+      c .answering .ensures,
+    )
+
+pub phy-sound-spec : {M : Type 1} → statement M
+phy-sound-spec =
+    tie.close
+    (tie.spec
+    element-copy-out-control
+    element-copy-out-status
+    registers-stand-requires
+    add-held
+    add-held-2
+    add-held-3
+    element-copy-out-stands-outside
+    stands-outside-requires
+    control-sound-requires
+    reset-stands-requires
+    follower-sound-requires
+    answering-requires
+    returns)

@@ -1,0 +1,98 @@
+// The event file (document 01, "Records": "Events, 4 bytes, 0 to 256: clock number (2 bytes), PHY address, code").
+
+use crate::Board;
+use crate::record::Record;
+use verdict::Verdict;
+ghost use mathlib.Core.Path.{_≡_};
+ghost use Prim.Native.Nat.{_+_, _*_, _<_};
+ghost use Rattle.verdict.specs.File.{byteAt};
+ghost use Rattle.board.specs.Events.{eventRecord, eventClock, eventAddress, eventCode, onBoard, clockBefore, eventFault, eventsVerdict};
+ghost use Rattle.board.specs.Record.{recordOf};
+
+// A byte of the event record at index k; past the file's end a byte reads 0.
+fn byte_of(events: &[u8], k: usize, offset: usize) -> u8
+    requires { ⌜ offset < 4 ⌝ }
+    ensures { λ r. ⌜ r ≡ byteAt (now (events .entry)) (k * eventRecord + offset) ⌝ }
+{
+    if events.len() / Board::EVENT_RECORD < k {
+        return 0;
+    }
+    let at = k * Board::EVENT_RECORD;
+    if events.len() - at <= offset {
+        return 0;
+    }
+    events[at + offset]
+}
+
+// The clock, the address and the code of the event record at index k.
+pub fn clock_of(events: &[u8], k: usize) -> u16
+    ensures { λ r. ⌜ r ≡ eventClock (now (events .entry)) k ⌝ }
+{
+    byte_of(events, k, 0) as u16 * 256 + byte_of(events, k, 1) as u16
+}
+
+pub fn address_of(events: &[u8], k: usize) -> u8
+    ensures { λ r. ⌜ r ≡ eventAddress (now (events .entry)) k ⌝ }
+{
+    byte_of(events, k, 2)
+}
+
+pub fn code_of(events: &[u8], k: usize) -> u8
+    ensures { λ r. ⌜ r ≡ eventCode (now (events .entry)) k ⌝ }
+{
+    byte_of(events, k, 3)
+}
+
+// Whether a PHY of the board has an address.
+fn on_board(board: Board, address: u8) -> bool
+    ensures { λ r. ⌜ r ≡ onBoard board address ⌝ }
+{
+    let phys = board.phys;
+    let count = board.count;
+    if Board::PLACES < count {
+        return crate::record::has_address(phys, Board::PLACES, address);
+    }
+    crate::record::has_address(phys, count, address)
+}
+
+// Checks 8 and 9 of the event record at index k, where `before` is the clock of the one before it.
+fn judge_event(board: Board, events: &[u8], last: usize, k: usize, before: u16) -> Record
+    requires { ⌜ before ≡ clockBefore (now events) k ⌝ }
+    ensures { λ r. ⌜ r ≡ recordOf (eventFault board (now (events .entry)) last k) ⌝ }
+{
+    let clock = clock_of(events, k);
+    let address = address_of(events, k);
+    let code = code_of(events, k);
+    let there = on_board(board, address);
+    if !((1 <= code) & (code <= 7)) | !there {
+        return Record::Bad(Verdict::WRONG_EVENT);
+    }
+    if (clock < before) | (last < clock as usize) {
+        return Record::Bad(Verdict::WRONG_CLOCK);
+    }
+    Record::Good
+}
+
+// The event file's checks on a board, where `last` is the last clock.
+pub fn check_events(board: Board, events: &[u8], last: usize) -> Verdict
+    ensures { λ r. ⌜ r ≡ eventsVerdict board (now (events .entry)) last ⌝ }
+{
+    if events.len() % Board::EVENT_RECORD != 0 {
+        return Verdict::Refused(Verdict::WRONG_LENGTH, 0);
+    }
+    let count = events.len() / Board::EVENT_RECORD;
+    if Board::MOST_EVENTS < count {
+        return Verdict::Refused(Verdict::TOO_MANY, 0);
+    }
+    let mut before: u16 = 0;
+    let mut k: usize = 0;
+    while k < count {
+        let event = judge_event(board, events, last, k, before);
+        let Record::Good = event else {
+            return Verdict::Refused(event.refusal(), k);
+        };
+        before = clock_of(events, k);
+        k += 1;
+    }
+    Verdict::Done(count)
+}

@@ -1,0 +1,57 @@
+// Up to 32 PHYs: the board file, what makes a board sound, and the event file (document 01, "Records" and "A sound
+// board").
+mod bits;
+mod events;
+mod file;
+mod record;
+mod sound;
+
+pub use events::address_of;
+pub use events::check_events;
+pub use events::clock_of;
+pub use events::code_of;
+pub use file::load;
+use phy::Phy;
+use verdict::Verdict;
+ghost use mathlib.Core.Path.{_≡_};
+ghost use Rattle.board.specs.Check.{checked};
+
+pub struct Board {
+    // How many PHYs there are; they stand in the first places.
+    pub count: usize,
+    pub phys: [Phy; 32],
+}
+
+impl Board {
+    pub const PLACES: usize = 32;
+    // The sizes of a board record and of an event record, and the most events.
+    pub const RECORD: usize = 134;
+
+    pub const EVENT_RECORD: usize = 4;
+
+    pub const MOST_EVENTS: usize = 256;
+}
+
+// What a load of the board file hands back.
+pub struct Loaded {
+    pub verdict: Verdict,
+    pub board: Board,
+}
+
+// Whether a board is sound: done with the number of PHYs, or refusal 12 at the lowest place at fault.
+pub fn check(board: Board) -> Verdict
+    ensures { λ r. ⌜ r ≡ checked board ⌝ }
+{
+    let count = board.count;
+    if Board::PLACES < count {
+        return Verdict::Refused(Verdict::NOT_SOUND, Board::PLACES);
+    }
+    let mut k: usize = 0;
+    while k < Board::PLACES {
+        if !crate::sound::place_sound(board, k) {
+            return Verdict::Refused(Verdict::NOT_SOUND, k);
+        }
+        k += 1;
+    }
+    Verdict::Done(count)
+}

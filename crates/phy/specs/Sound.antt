@@ -1,0 +1,170 @@
+-- Document 01, "A sound board", as far as it speaks of one PHY: each clause in the document's order.
+use Prim.Native.Nat.{ℕ, zero, _+_, _-_, _/_, _%_, _^_}
+use mathlib.Core.Bool.{Bool, true, false, not, _&&_, _||_}
+use mathlib.Core.List.{List, []}
+use lib.ListN.{replicate}
+use lib.Dec.{leb, eqb}
+use Rattle.verdict.specs.Bits.{bit}
+use Rattle.frame.specs.Frame.{headerBits, frameBits}
+use Rattle.frame.specs.List.{read}
+use Rattle.wire.specs.declared.Follower.{Follower}
+use Rattle.wire.specs.declared.Follower.the-variants.{Hunting, Inside}
+use Rattle.wire.specs.declared.Header.{Header}
+use Rattle.wire.specs.Follower.{headerSeen}
+use Rattle.phy.specs.declared.Phy.{Phy}
+use Rattle.phy.specs.Abilities.{one, able10, able100, able1000, ableFull, ableHalf}
+use Rattle.phy.specs.Record.{every, registerCount, word, implements}
+
+-- the words that the clauses name
+abbrev pub controlOf : Phy → ℕ
+controlOf p = word (p .registers) 0
+
+abbrev pub statusOf : Phy → ℕ
+statusOf p = word (p .registers) 1
+
+abbrev pub extendedOf : Phy → ℕ
+extendedOf p = word (p .registers) 15
+
+-- a clause that is asked only where another holds
+infixr 15 _implies_
+abbrev pub _implies_ : Bool → Bool → Bool
+_implies_ a b = not a || b
+
+-- the bits outside a mask stand as in another word
+unfoldable pub standsOutside : ℕ → ℕ → ℕ → Bool
+standsOutside mask value default = every 16 (λ i. one i mask || eqb (bit i value) (bit i default))
+
+-- "bits outside masks stand at default in registers above 1"
+unfoldable pub registersStand : Phy → Bool
+registersStand p =
+    every registerCount (λ r. leb r 1 || standsOutside (word (p .masks) r) (word (p .registers) r) (word (p .defaults) r))
+
+-- "as do all of register 1 but bits 5, 4, 2, 1"
+abbrev pub statusStands : Phy → Bool
+statusStands p = standsOutside (2 ^ 5 + 2 ^ 4 + 2 ^ 2 + 2 ^ 1) (statusOf p) (word (p .defaults) 1)
+
+-- "register 0 has an able speed": bits (6,13), 00 is 10, 01 is 100, 10 is 1000
+abbrev pub speedAble : Bool → Bool → ℕ → ℕ → Bool
+speedAble false false status extended = able10 status extended
+speedAble false true status extended = able100 status extended
+speedAble true false status extended = able1000 status extended
+speedAble true true status extended = false
+
+abbrev pub ableSpeed : Phy → Bool
+ableSpeed p = speedAble (one 6 (controlOf p)) (one 13 (controlOf p)) (statusOf p) (extendedOf p)
+
+-- "12 zero if 1.3 is zero"
+abbrev pub negotiationAble : Phy → Bool
+negotiationAble p = one 12 (controlOf p) implies one 3 (statusOf p)
+
+-- "9 zero if 12 is zero"
+abbrev pub restartNegotiates : Phy → Bool
+restartNegotiates p = one 9 (controlOf p) implies one 12 (controlOf p)
+
+-- "8 as fixed where one duplex is able"
+abbrev pub duplexFixed : Phy → Bool
+duplexFixed p =
+    (one 8 (controlOf p) || (ableHalf (statusOf p) (extendedOf p) || not (ableFull (statusOf p) (extendedOf p))))
+    && (not (one 8 (controlOf p)) || (ableFull (statusOf p) (extendedOf p) || not (ableHalf (statusOf p) (extendedOf p))))
+
+-- "5 zero if 1.7 is zero"
+abbrev pub unidirectionAble : Phy → Bool
+unidirectionAble p = one 5 (controlOf p) implies one 7 (statusOf p)
+
+-- "4:0 zero"
+abbrev pub reservedClear : Phy → Bool
+reservedClear p = eqb (controlOf p % 2 ^ 5) 0
+
+-- "in reset all else stands at default with the link down"
+unfoldable pub othersAtDefault : Phy → Bool
+othersAtDefault p = every registerCount (λ r. leb r 0 || eqb (word (p .registers) r) (word (p .defaults) r))
+
+abbrev pub resetStands : Phy → Bool
+resetStands p =
+    one 15 (controlOf p)
+    implies
+    (standsOutside (2 ^ 15) (controlOf p) (word (p .defaults) 0) && (othersAtDefault p && not (p .link)))
+
+-- "1.5 one only with 0.12 one and 0.9 zero"
+abbrev pub completeNegotiates : Phy → Bool
+completeNegotiates p = one 5 (statusOf p) implies (one 12 (controlOf p) && not (one 9 (controlOf p)))
+
+-- "1.2 one only with the link up"
+abbrev pub heldLinkUp : Phy → Bool
+heldLinkUp p = one 2 (statusOf p) implies p .link
+
+-- the number that the first n of the bits seen say
+abbrev pub firstBits : ℕ → ℕ → ℕ → ℕ
+firstBits n seen bits = bits / 2 ^ (seen - n)
+
+-- "hunting with 0 to 32 ones, or inside a frame with 1 to 31 bits, the first 0 and any second 1"
+unfoldable pub followerSound : Follower → Bool
+followerSound (Hunting ones) = leb ones 32
+followerSound (Inside seen bits) =
+    leb 1 seen
+    && (leb seen (frameBits - 1) && (eqb (firstBits 1 seen bits) 0 && (leb seen 1 || eqb (firstBits 2 seen bits) 1)))
+
+-- an own read of an implemented register
+abbrev pub ownRead : Phy → Header → Bool
+ownRead p header = eqb (header .op) read && (eqb (header .address) (p .address) && implements (p .implemented) (header .register))
+
+-- "in an own read of an implemented register from its 14th bit on"
+unfoldable pub answering : Phy → Follower → Bool
+answering p (Hunting ones) = false
+answering p (Inside seen bits) = leb headerBits seen && (leb seen (frameBits - 1) && ownRead p (headerSeen seen bits))
+
+-- "a captured word, of any value, only in an own read (..), else 0"
+abbrev pub capturedSound : Phy → Bool
+capturedSound p = answering p (p .follower) || eqb (p .captured) 0
+
+-- register 0's clauses
+unfoldable pub controlSound : Phy → Bool
+controlSound p =
+    ableSpeed p
+    && (negotiationAble p && (restartNegotiates p && (duplexFixed p && (unidirectionAble p && reservedClear p))))
+
+-- all that "A sound board" asks of one PHY beside its record
+unfoldable pub phySound : Phy → Bool
+phySound p =
+    registersStand p
+    && (statusStands p
+    && (controlSound p
+    && (resetStands p
+    && (completeNegotiates p && (heldLinkUp p && (followerSound (p .follower) && capturedSound p))))))
+
+-- "unused places blank (numbers zero, hunting with 0 ones, link down)"
+abbrev pub zeros : List ℕ → Bool
+zeros words = every registerCount (λ r. eqb (word words r) 0)
+
+abbrev pub huntsFresh : Follower → Bool
+huntsFresh (Hunting ones) = eqb ones 0
+huntsFresh (Inside seen bits) = false
+
+unfoldable pub isBlank : Phy → Bool
+isBlank p =
+    eqb (p .address) 0
+    && (eqb (p .implemented) 0
+    && (zeros (p .defaults)
+    && (zeros (p .masks)
+    && (zeros (p .registers) && (not (p .link) && (huntsFresh (p .follower) && eqb (p .captured) 0))))))
+
+-- "A load gives hunting, 0 ones, link down, defaults."
+abbrev pub fresh : ℕ → ℕ → List ℕ → List ℕ → Phy
+fresh address implemented defaults masks =
+    record {
+      address = address;
+      implemented = implemented;
+      defaults = defaults;
+      masks = masks;
+      registers = defaults;
+      link = false;
+      follower = Hunting 0;
+      captured = 0;
+    }
+
+unfoldable pub blank : Phy
+blank = fresh 0 0 (replicate 32 0) (replicate 32 0)
+
+-- what a list of PHYs reads past its end, where no PHY stands
+abbrev pub nowhere : Phy
+nowhere = fresh 0 0 [] []
