@@ -21,6 +21,10 @@ pub record Core (P : Type 0) : Type 0 where
 abbrev pub headerFor : Transaction → Header
 headerFor t = record { op = t .op; address = t .address; register = t .register }
 
+-- the clocks of a transaction: a preamble of m ones, the frame and the idle clock
+abbrev pub clocksWith : ℕ → ℕ
+clocksWith m = m + frameBits + 1
+
 module _ {P : Type 0} (core : Core P) where
   -- n clocks in which nothing acts, after c clocks: their events alone
   unfoldable pub quiet : ℕ → ℕ → List P → List P
@@ -49,3 +53,12 @@ module _ {P : Type 0} (core : Core P) where
         cond (isRead t)
         (quiet (c + (m + headerBits - 1)) (frameBits - headerBits + 2) (map (core .afterHeader (headerFor t)) beforeRead))
         (quiet (c + (m + frameBits - 1)) 2 (map (core .afterFrame (headerFor t) (t .«data»)) beforeWrite))
+
+  -- A list of transactions after c clocks, the first with a preamble of m ones and each later one with n: its answers, and the parties after it
+  unfoldable pub plainAnswers : ℕ → ℕ → List Transaction → ℕ → List P → List Answer
+  plainAnswers m n [] c ps = []
+  plainAnswers m n (t ∷ ts) c ps = plainAnswer m t c ps ∷ plainAnswers n n ts (c + clocksWith m) (plainAfter m t c ps)
+
+  unfoldable pub plainParties : ℕ → ℕ → List Transaction → ℕ → List P → List P
+  plainParties m n [] c ps = ps
+  plainParties m n (t ∷ ts) c ps = plainParties n n ts (c + clocksWith m) (plainAfter m t c ps)

@@ -1,0 +1,29 @@
+-- Bits in and out again: a number is what its bits say, and bits of two numbers stand one after the other.
+use Prim.Native.Nat.{ℕ, zero, suc, _+_, _*_, _/_, _%_, _^_, _≤_, _<_}
+use mathlib.Core.Path.{_≡_, refl, ap, ap₂, sym, _∙_}
+use mathlib.Core.List.{List, [], _∷_, _++_}
+use native.Mathlib.Omega.{arith}
+use native.Mathlib.Nat.{mod-eq-of-lt, mod-lt, pow-suc, zero-mul, zero-add}
+use lib.ListN.{length}
+use lib.Pow.{pow-pos, pow-add, mod-pow-add, shr-lt, shr-shr, high, low}
+use Rattle.verdict.specs.Bits.{bit, bits, shiftIn, valueOf}
+
+pub length-bits : (n word : ℕ) → length (bits n word) ≡ n
+unfolding bits
+length-bits zero word = refl
+length-bits (suc n) word = ap suc (length-bits n word)
+
+-- n bits of a word come in behind a number
+pub shiftIn-bits : (n number word : ℕ) → shiftIn number (bits n word) ≡ number * 2 ^ n + word % 2 ^ n
+unfolding bits shiftIn
+shiftIn-bits zero number word = omega arith
+shiftIn-bits (suc n) number word =
+    let step : shiftIn (number * 2 + bit n word) (bits n word) ≡ (number * 2 + bit n word) * 2 ^ n + word % 2 ^ n = shiftIn-bits n (number * 2 + bit n word) word in
+    let e : suc n ≡ 1 + n = omega arith in
+    let top : word % 2 ^ suc n ≡ bit n word * 2 ^ n + word % 2 ^ n = ap (λ k. word % 2 ^ k) e ∙ mod-pow-add word 1 n in
+    let double : number * 2 ^ suc n ≡ number * (2 ^ n * 2) = ap (λ k. number * k) (pow-suc 2 n) in
+    omega arith
+
+-- a number of n bits is what its bits say
+pub value-of-bits : (n word : ℕ) → word < 2 ^ n → valueOf (bits n word) ≡ word
+value-of-bits n word fits = shiftIn-bits n 0 word ∙ omega (arith, mod-eq-of-lt fits)
