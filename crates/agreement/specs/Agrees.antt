@@ -16,10 +16,9 @@ use Rattle.frame.specs.List.{write, isRead}
 use Rattle.frame.specs.Steps.{driveOne, startSteps, opSteps, table}
 use Rattle.frame.specs.Answers.{sent, silent, answerTo, readAnswer}
 use Rattle.wire.specs.declared.Drive.{Drive}
-use Rattle.wire.specs.declared.Follower.the-variants.{Hunting}
 use Rattle.wire.specs.Wire.{Party, levelOf, drivers, asBit, stationDrive, runs, driven}
 use Rattle.wire.specs.Machines.{Core, clocksWith, plainAnswer, plainAfter, plainAnswers, plainParties}
-use Rattle.agreement.specs.Follows.{Line}
+use Rattle.agreement.specs.Follows.{Line, rest}
 
 -- a transaction that the list's checks let through
 pub record Accepted (t : Transaction) : Type 0 where
@@ -59,21 +58,9 @@ levelsOf m t a =
     ++ (answerLevels a ++ (true ∷ [])))
 
 module _ {P : Type 0} (wire : Party P) (core : Core P) (line : Line P) where
-  -- a party at rest after a transaction: hunting with the one 1 of the idle clock, nothing captured
-  abbrev pub rest : P → P
-  rest p = line .put (Hunting 1) 0 p
-
-  -- a party that will take a 0 after m ones for a start
-  pub record Ready (Good : P → Type 0) (m : ℕ) (p : P) : Type 0 where
-    pub good : Good p
-    pub ones : ℕ
-    pub hunts : line .follower p ≡ Hunting ones
-    pub empty : line .captured p ≡ 0
-    pub enough : line .enough p ≤ ones + m
-
   -- one transaction with a preamble of m ones, after c clocks
   pub record Agrees (m : ℕ) (t : Transaction) (c : ℕ) (ps : List P) : Type 0 where
-    pub after : runs wire (stationFor m t) c ps ≡ map rest (plainAfter core m t c ps)
+    pub after : runs wire (stationFor m t) c ps ≡ map (rest line) (plainAfter core m t c ps)
     pub levels : map levelOf (driven wire (stationFor m t) c ps) ≡ levelsOf m t (plainAnswer core m t c ps)
     pub answer : heard m t (at (map levelOf (driven wire (stationFor m t) c ps))) ≡ plainAnswer core m t c ps
     pub alone : All (λ drives. drivers drives ≤ 1) (driven wire (stationFor m t) c ps)

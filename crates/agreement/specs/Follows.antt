@@ -31,6 +31,18 @@ pub record Line (P : Type 0) : Type 0 where
   pub captured : P → ℕ
   pub put : Follower → ℕ → P → P
 
+-- a party at rest after a transaction: hunting with the one 1 of the idle clock, nothing captured
+abbrev pub rest : {P : Type 0} → Line P → P → P
+rest line p = line .put (Hunting 1) 0 p
+
+-- a party that takes a 0 after m more ones for a start
+pub record Ready {P : Type 0} (line : Line P) (Good : P → Type 0) (m : ℕ) (p : P) : Type 0 where
+  pub good : Good p
+  pub ones : ℕ
+  pub hunts : line .follower p ≡ Hunting ones
+  pub empty : line .captured p ≡ 0
+  pub enough : line .enough p ≤ ones + m
+
 module _ {P : Type 0} (wire : Party P) (core : Core P) (line : Line P) (Good : P → Type 0) where
   -- what every effect and every event keeps; it goes by neither follower nor captured word, and touches neither
   pub record Keeps (effect : P → P) : Type 0 where

@@ -1,6 +1,6 @@
 -- What is said of the elements of a list (`All`, `count`), element by element.
 use Prim.Native.Nat.{ℕ, suc, _≤_}
-use mathlib.Core.Path.{_≡_, refl, ap, ap₂}
+use mathlib.Core.Path.{_≡_, refl, ap₂, sym, _∙_}
 use mathlib.Core.Bool.{Bool, true, false, cond}
 use mathlib.Core.List.{List, [], _∷_, _++_, map}
 use Rattle.verdict.specs.Lists.{All, count}
@@ -21,28 +21,36 @@ module _ {A : Type 0} where
   all-then Q R (x ∷ xs) h l = (h x (l .0), all-then Q R xs h (l .1))
 
 module _ {A B : Type 0} where
-  pub all-map : (Q : B → Type 0) (f : A → B) (xs : List A) → All (λ x. Q (f x)) xs → All Q (map f xs)
-  all-map Q f [] h = tt
-  all-map Q f (x ∷ xs) h = (h .0, all-map Q f xs (h .1))
+  pub all-map : (Q : A → Type 0) (R : B → Type 0) (f : A → B) (xs : List A) → ((x : A) → Q x → R (f x)) → All Q xs → All R (map f xs)
+  all-map Q R f [] h l = tt
+  all-map Q R f (x ∷ xs) h l = (h x (l .0), all-map Q R f xs h (l .1))
+
+  pub all-map-of : (R : B → Type 0) (f : A → B) (xs : List A) → ((x : A) → R (f x)) → All R (map f xs)
+  all-map-of R f [] h = tt
+  all-map-of R f (x ∷ xs) h = (h x, all-map-of R f xs h)
 
   -- two maps that agree on every element
   pub map-same : (f g : A → B) (xs : List A) → All (λ x. f x ≡ g x) xs → map f xs ≡ map g xs
   map-same f g [] h = refl
   map-same f g (x ∷ xs) h = ap₂ (λ (y : B) (ys : List B). y ∷ ys) (h .0) (map-same f g xs (h .1))
 
-  pub count-map : (test : B → Bool) (f : A → B) (xs : List A) → count test (map f xs) ≡ count (λ x. test (f x)) xs
-  count-map test f [] = refl
-  count-map test f (x ∷ xs) = rw (count-map test f xs)
-
 module _ {A : Type 0} where
-  pub count-same : (f g : A → Bool) (xs : List A) → ((x : A) → f x ≡ g x) → count f xs ≡ count g xs
-  count-same f g [] h = refl
-  count-same f g (x ∷ xs) h = rw (h x, count-same f g xs h)
-
   pub count-none : (xs : List A) → count (λ x. false) xs ≡ 0
   count-none [] = refl
   count-none (x ∷ xs) = count-none xs
 
-pub map-map : {A B C : Type 0} (f : B → C) (g : A → B) (xs : List A) → map f (map g xs) ≡ map (λ x. f (g x)) xs
-map-map f g [] = refl
-map-map f g (x ∷ xs) = ap (λ ys. f (g x) ∷ ys) (map-map f g xs)
+module _ {A B C : Type 0} where
+  -- one map after another that together are a third
+  pub map-then : (f : B → C) (g : A → B) (h : A → C) → ((x : A) → f (g x) ≡ h x) → (xs : List A) → map f (map g xs) ≡ map h xs
+  map-then f g h same [] = refl
+  map-then f g h same (x ∷ xs) = ap₂ (λ (y : C) (ys : List C). y ∷ ys) (same x) (map-then f g h same xs)
+
+module _ {A : Type 0} where
+  -- two maps of which either may come first
+  pub map-past : (f g : A → A) → ((x : A) → g (f x) ≡ f (g x)) → (xs : List A) → map g (map f xs) ≡ map f (map g xs)
+  map-past f g same xs = map-then g f (λ x. f (g x)) same xs ∙ sym (map-then f g (λ x. f (g x)) (λ x. refl) xs)
+
+  -- a map that keeps the test keeps the count
+  pub count-kept : (test : A → Bool) (f : A → A) → ((x : A) → test (f x) ≡ test x) → (xs : List A) → count test (map f xs) ≡ count test xs
+  count-kept test f kept [] = refl
+  count-kept test f kept (x ∷ xs) = rw (kept x, count-kept test f kept xs)

@@ -59,3 +59,7 @@ module _ {P : Type 0} (party : Party P) where
           alone = subst (All (λ es. drivers es ≤ 1)) (sym all) (all-append (λ es. drivers es ≤ 1) (driven party a c ps) (driven party b c′ qs) (first .alone) (then .alone));
           ends = omega (arith, first .ends, then .ends, length-append a b);
         }
+
+    -- the same run told of an equal list of parties
+    pub goes-to : {a : List Drive} {la : List Bool} {c′ : ℕ} {qs rs : List P} → Goes a c ps la c′ qs → qs ≡ rs → Goes a c ps la c′ rs
+    goes-to run same = record { after = run .after ∙ same; levels-are = run .levels-are; alone = run .alone; ends = run .ends }
