@@ -1,2 +1,5 @@
 pub mod Phase
 pub mod Start
+pub mod Seen
+pub mod Reading
+pub mod Frame

@@ -26,7 +26,7 @@ module _ {P : Type 0} (wire : Party P) (core : Core P) (line : Line P) (Good : P
   -- a clock in which nobody but the station may drive
   pub silent-clock : (d : Drive) (level : Bool) (g : P → P) (c : ℕ) (ps : List P) → All (λ p. wire .drives p ≡ Released) ps → levelOf (d ∷ Released ∷ []) ≡ level → All (λ p. wire .samples level p ≡ g p) ps → Goes wire (d ∷ []) c ps (level ∷ []) (suc c) (map (core .happens (suc c)) (map g ps))
   silent-clock d level g c ps silent hears samples =
-      let said : Alike (drivesOf wire d ps) (d ∷ Released ∷ []) = rw (map-same (wire .drives) (λ p. Released) ps silent) (alike-cons d (map (λ (p : P). Released) ps) (Released ∷ []) (one-voice (λ p. false) Released false ps (count-none ps))) in
+      let said : Alike (drivesOf wire d ps) (d ∷ Released ∷ []) = rw (map-same (wire .drives) (λ p. Released) ps silent) (alike-cons d (map (λ (p : P). Released) ps) (Released ∷ []) (one-voice (λ p. false) Released false ps (count-none (λ p. false) ps (λ p. refl)))) in
       goes-cons wire (said .level ∙ hears) (rw (said .number) (at-most-one d))
       (events-of wire core line Good laws (suc c) (map-same (wire .samples level) g ps samples))
       (goes-nil wire)

@@ -1,17 +1,28 @@
 -- Bits in and out again: a number is what its bits say, and bits of two numbers stand one after the other.
 use Prim.Native.Nat.{ℕ, zero, suc, _+_, _*_, _/_, _%_, _^_, _≤_, _<_}
-use mathlib.Core.Path.{_≡_, refl, ap, ap₂, sym, _∙_}
+use mathlib.Core.Path.{_≡_, refl, ap, _∙_}
 use mathlib.Core.List.{List, [], _∷_, _++_}
 use native.Mathlib.Omega.{arith}
-use native.Mathlib.Nat.{mod-eq-of-lt, mod-lt, pow-suc, zero-mul, zero-add}
+use native.Mathlib.Nat.{mod-eq-of-lt, pow-suc}
 use lib.ListN.{length}
-use lib.Pow.{pow-pos, pow-add, mod-pow-add, shr-lt, shr-shr, high, low}
+use lib.Pow.{mod-pow-add}
 use Rattle.verdict.specs.Bits.{bit, bits, shiftIn, valueOf}
+use Rattle.verdict.specs.Lists.{All}
 
 pub length-bits : (n word : ℕ) → length (bits n word) ≡ n
 unfolding bits
 length-bits zero word = refl
 length-bits (suc n) word = ap suc (length-bits n word)
+
+pub bits-small : (n word : ℕ) → All (λ b. b < 2) (bits n word)
+unfolding bits
+bits-small zero word = tt
+bits-small (suc n) word = (omega arith, bits-small n word)
+
+pub shiftIn-append : (number : ℕ) (xs ys : List ℕ) → shiftIn number (xs ++ ys) ≡ shiftIn (shiftIn number xs) ys
+unfolding shiftIn
+shiftIn-append number [] ys = refl
+shiftIn-append number (x ∷ xs) ys = shiftIn-append (number * 2 + x) xs ys
 
 -- n bits of a word come in behind a number
 pub shiftIn-bits : (n number word : ℕ) → shiftIn number (bits n word) ≡ number * 2 ^ n + word % 2 ^ n

@@ -3,6 +3,7 @@ use Prim.Native.Nat.{ℕ, suc, _≤_}
 use mathlib.Core.Path.{_≡_, refl, ap₂, sym, _∙_}
 use mathlib.Core.Bool.{Bool, true, false, cond}
 use mathlib.Core.List.{List, [], _∷_, _++_, map}
+use native.Mathlib.Omega.{arith}
 use Rattle.verdict.specs.Lists.{All, count}
 
 module _ {A : Type 0} where
@@ -34,11 +35,6 @@ module _ {A B : Type 0} where
   map-same f g [] h = refl
   map-same f g (x ∷ xs) h = ap₂ (λ (y : B) (ys : List B). y ∷ ys) (h .0) (map-same f g xs (h .1))
 
-module _ {A : Type 0} where
-  pub count-none : (xs : List A) → count (λ x. false) xs ≡ 0
-  count-none [] = refl
-  count-none (x ∷ xs) = count-none xs
-
 module _ {A B C : Type 0} where
   -- one map after another that together are a third
   pub map-then : (f : B → C) (g : A → B) (h : A → C) → ((x : A) → f (g x) ≡ h x) → (xs : List A) → map f (map g xs) ≡ map h xs
@@ -54,3 +50,16 @@ module _ {A : Type 0} where
   pub count-kept : (test : A → Bool) (f : A → A) → ((x : A) → test (f x) ≡ test x) → (xs : List A) → count test (map f xs) ≡ count test xs
   count-kept test f kept [] = refl
   count-kept test f kept (x ∷ xs) = rw (kept x, count-kept test f kept xs)
+
+  -- where none is counted none passes, and the other way round
+  pub none-pass : (test : A → Bool) (xs : List A) → count test xs ≡ 0 → All (λ x. test x ≡ false) xs
+  none-pass test [] none = tt
+  none-pass test (x ∷ xs) none = go (test x) refl none (none-pass test xs)
+    where
+      go : (b : Bool) → test x ≡ b → cond b (suc (count test xs)) (count test xs) ≡ 0 → (count test xs ≡ 0 → All (λ y. test y ≡ false) xs) → (test x ≡ false) × All (λ y. test y ≡ false) xs
+      go true e none rest = absurd (omega arith)
+      go false e none rest = (e, rest none)
+
+  pub count-none : (test : A → Bool) (xs : List A) → ((x : A) → test x ≡ false) → count test xs ≡ 0
+  count-none test [] fails = refl
+  count-none test (x ∷ xs) fails = rw (fails x) (count-none test xs fails)
