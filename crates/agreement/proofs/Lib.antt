@@ -3,3 +3,4 @@ pub mod Start
 pub mod Seen
 pub mod Reading
 pub mod Frame
+pub mod Sends

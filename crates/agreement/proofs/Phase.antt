@@ -55,7 +55,7 @@ module _ {P : Type 0} (wire : Party P) (core : Core P) (line : Line P) (Good : P
       either false = refl
 
   module _ (speaker : P → Bool) (word : ℕ) (kept : (c : ℕ) (p : P) → speaker (core .happens c p) ≡ speaker p) where
-    guise-happens : (seen bits c : ℕ) (p : P) → core .happens c (guise line speaker word seen bits p) ≡ guise line speaker word seen bits (core .happens c p)
+    pub guise-happens : (seen bits c : ℕ) (p : P) → core .happens c (guise line speaker word seen bits p) ≡ guise line speaker word seen bits (core .happens c p)
     guise-happens seen bits c p = 
         laws .keeps-events c .put (Inside seen bits) (cond (speaker p) word 0) p
         ∙ ap (λ b. line .put (Inside seen bits) (cond b word 0) (core .happens c p)) (sym (kept c p))

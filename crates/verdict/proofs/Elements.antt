@@ -46,6 +46,11 @@ module _ {A : Type 0} where
   pub map-past : (f g : A → A) → ((x : A) → g (f x) ≡ f (g x)) → (xs : List A) → map g (map f xs) ≡ map f (map g xs)
   map-past f g same xs = map-then g f (λ x. f (g x)) same xs ∙ sym (map-then f g (λ x. f (g x)) (λ x. refl) xs)
 
+  -- a map that changes nothing
+  pub map-stays : (f : A → A) → ((x : A) → f x ≡ x) → (xs : List A) → map f xs ≡ xs
+  map-stays f same [] = refl
+  map-stays f same (x ∷ xs) = ap₂ (λ (y : A) (ys : List A). y ∷ ys) (same x) (map-stays f same xs)
+
   -- a map that keeps the test keeps the count
   pub count-kept : (test : A → Bool) (f : A → A) → ((x : A) → test (f x) ≡ test x) → (xs : List A) → count test (map f xs) ≡ count test xs
   count-kept test f kept [] = refl

@@ -9,6 +9,11 @@ use Rattle.verdict.proofs.Elements.{all-map, map-past, count-kept}
 use Rattle.wire.specs.Machines.{Core, quiet}
 
 module _ {P : Type 0} (core : Core P) where
+  -- the events of one clock, then some more clocks
+  pub quiet-clock : (c n : ℕ) (ps : List P) → quiet core (suc c) n (map (core .happens (suc c)) ps) ≡ quiet core c (suc n) ps
+  unfolding quiet
+  quiet-clock c n ps = refl
+
   -- some clocks, then some more
   pub quiet-append : (a b c c′ : ℕ) (ps : List P) → c′ ≡ c + a → quiet core c (a + b) ps ≡ quiet core c′ b (quiet core c a ps)
   unfolding quiet

@@ -21,7 +21,13 @@ pub record Core (P : Type 0) : Type 0 where
 abbrev pub headerFor : Transaction → Header
 headerFor t = record { op = t .op; address = t .address; register = t .register }
 
--- the clocks of a transaction: a preamble of m ones, the frame and the idle clock
+-- A transaction with a preamble of m ones: a read acts in clock m + 14 and a write in m + 32, so these are the clocks before it; then all its clocks, with the idle one
+abbrev pub beforeReads : ℕ → ℕ
+beforeReads m = m + headerBits - 1
+
+abbrev pub beforeWrites : ℕ → ℕ
+beforeWrites m = m + frameBits - 1
+
 abbrev pub clocksWith : ℕ → ℕ
 clocksWith m = m + frameBits + 1
 
@@ -37,22 +43,23 @@ module _ {P : Type 0} (core : Core P) where
   readOf t (p ∷ ps) =
       cond (core .answers (headerFor t) p) (answerTo t answered (core .word (headerFor t) p)) (readOf t ps)
 
-  -- One transaction with a preamble of m ones, after c clocks: a read acts in its clock m + 14 and a write in m + 32
+  -- one transaction with a preamble of m ones, after c clocks: its answer, and the parties after it
   module _ (m : ℕ) (t : Transaction) (c : ℕ) (ps : List P) where
-    abbrev pub beforeRead : List P
-    beforeRead = quiet c (m + headerBits - 1) ps
-
-    abbrev pub beforeWrite : List P
-    beforeWrite = quiet c (m + frameBits - 1) ps
-
     abbrev pub plainAnswer : Answer
-    plainAnswer = cond (isRead t) (readOf t beforeRead) (answerTo t sent (t .«data»))
+    plainAnswer = cond (isRead t) (readOf t (quiet c (beforeReads m) ps)) (answerTo t sent (t .«data»))
+
+    abbrev pub afterRead : List P
+    afterRead =
+        quiet (c + beforeReads m) (frameBits - headerBits + 2)
+        (map (core .afterHeader (headerFor t)) (quiet c (beforeReads m) ps))
+
+    abbrev pub afterWrite : List P
+    afterWrite =
+        quiet (c + beforeWrites m) 2
+        (map (core .afterFrame (headerFor t) (t .«data»)) (quiet c (beforeWrites m) ps))
 
     abbrev pub plainAfter : List P
-    plainAfter =
-        cond (isRead t)
-        (quiet (c + (m + headerBits - 1)) (frameBits - headerBits + 2) (map (core .afterHeader (headerFor t)) beforeRead))
-        (quiet (c + (m + frameBits - 1)) 2 (map (core .afterFrame (headerFor t) (t .«data»)) beforeWrite))
+    plainAfter = cond (isRead t) afterRead afterWrite
 
   -- A list of transactions after c clocks, the first with a preamble of m ones and each later one with n: its answers, and the parties after it
   unfoldable pub plainAnswers : ℕ → ℕ → List Transaction → ℕ → List P → List Answer
