@@ -4,3 +4,4 @@ pub mod Seen
 pub mod Reading
 pub mod Frame
 pub mod Sends
+pub mod Rows
