@@ -5,3 +5,5 @@ pub mod Reading
 pub mod Frame
 pub mod Sends
 pub mod Rows
+pub mod Heard
+pub mod Transaction

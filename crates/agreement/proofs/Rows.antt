@@ -46,6 +46,26 @@ station-rows m t =
     ones-driven zero = refl
     ones-driven (suc m) = ap (λ ds. Driven true ∷ ds) (ones-driven m)
 
+module _ (t : Transaction) where
+  pub row-small : All (λ b. b < 2) (headerRow t)
+  unfolding join
+  row-small =
+      all-append (λ b. b < 2) (opSteps (isRead t)) _ (op-small (isRead t))
+      (all-append (λ b. b < 2) (bits 5 (t .address)) _ (bits-small 5 (t .address))
+      (all-append (λ b. b < 2) (bits 5 (t .register)) [] (bits-small 5 (t .register)) tt))
+    where
+      op-small : (b : Bool) → All (λ b. b < 2) (opSteps b)
+      op-small true = (omega arith, (omega arith, tt))
+      op-small false = (omega arith, (omega arith, tt))
+
+  pub row-long : length (headerRow t) ≡ 12
+  unfolding join
+  row-long = simp (length-append, length-bits, op-long)
+    where
+      op-long : (b : Bool) → length (opSteps b) ≡ 2
+      op-long true = refl
+      op-long false = refl
+
 module _ (t : Transaction) (accepted : Accepted t) where
   -- the fourteen bits that the header says
   abbrev pub headerWord : ℕ
@@ -59,25 +79,6 @@ module _ (t : Transaction) (accepted : Accepted t) where
       go true e = let two : t .op ≡ 2 = eqb-true (t .op) 2 e in (omega arith, omega arith)
       go false e = let one : t .op ≡ 1 = accepted .op e in (omega arith, omega arith)
 
-  row-small : All (λ b. b < 2) (headerRow t)
-  unfolding join
-  row-small =
-      all-append (λ b. b < 2) (opSteps (isRead t)) _ (op-small (isRead t))
-      (all-append (λ b. b < 2) (bits 5 (t .address)) _ (bits-small 5 (t .address))
-      (all-append (λ b. b < 2) (bits 5 (t .register)) [] (bits-small 5 (t .register)) tt))
-    where
-      op-small : (b : Bool) → All (λ b. b < 2) (opSteps b)
-      op-small true = (omega arith, (omega arith, tt))
-      op-small false = (omega arith, (omega arith, tt))
-
-  row-long : length (headerRow t) ≡ 12
-  unfolding join
-  row-long = simp (length-append, length-bits, op-long)
-    where
-      op-long : (b : Bool) → length (opSteps b) ≡ 2
-      op-long true = refl
-      op-long false = refl
-
   row-says : shiftIn 1 (headerRow t) ≡ headerWord
   unfolding join
   row-says =
@@ -85,13 +86,13 @@ module _ (t : Transaction) (accepted : Accepted t) where
       (omega (arith, op-is, mod-eq-of-lt (accepted .address), mod-eq-of-lt (accepted .register)))
 
   pub header-long : length (map stationDrive (headerRow t)) ≡ 12
-  header-long = length-map (headerRow t) stationDrive ∙ row-long
+  header-long = length-map (headerRow t) stationDrive ∙ row-long t
 
   pub header-heard : hears false 0 2 (map stationDrive (headerRow t)) ≡ ones (headerRow t)
-  header-heard = hears-row 0 2 (headerRow t) row-small
+  header-heard = hears-row 0 2 (headerRow t) (row-small t)
 
   pub header-shown : shown 1 (hears false 0 2 (map stationDrive (headerRow t))) ≡ headerWord
-  header-shown = ap (shown 1) header-heard ∙ shown-row 1 1 (headerRow t) row-small (omega arith) (omega (arith, row-long)) ∙ row-says
+  header-shown = ap (shown 1) header-heard ∙ shown-row 1 1 (headerRow t) (row-small t) (omega arith) (omega (arith, row-long t)) ∙ row-says
 
   pub header-fits : headerWord < 2 ^ 14
   header-fits = omega (arith, op-is, accepted .address, accepted .register)

@@ -80,3 +80,9 @@ silent-fits someone (suc k) = (alone someone, silent-fits someone k)
     alone true Released = omega arith
     alone true (Driven l) = omega arith
     alone false said = omega arith
+
+-- a read on the wire: turnaround and data of the one that answers, or of nobody
+pub hears-read : (someone : Bool) (word : ℕ) → hears someone word 14 (replicate 18 Released) ≡ cond someone (true ∷ false ∷ ones (bits 16 word)) (replicate 18 true)
+unfolding answering
+hears-read true word = ap (λ ls. true ∷ false ∷ ls) (hears-word word 16 16 refl (omega arith))
+hears-read false word = refl

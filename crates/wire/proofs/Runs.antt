@@ -60,6 +60,15 @@ module _ {P : Type 0} (party : Party P) where
           ends = omega (arith, first .ends, then .ends, length-append a b);
         }
 
-    -- the same run told of an equal list of parties
+    -- the same run in other words
+    pub goes-as : {a b : List Drive} {la lb : List Bool} {c′ c″ : ℕ} {qs rs : List P} → Goes a c ps la c′ qs → a ≡ b → la ≡ lb → c′ ≡ c″ → qs ≡ rs → Goes b c ps lb c″ rs
+    goes-as {a} run drives levels clock parties =
+        record {
+          after = ap (λ ds. runs party ds c ps) (sym drives) ∙ run .after ∙ parties;
+          levels-are = ap (λ ds. map levelOf (driven party ds c ps)) (sym drives) ∙ run .levels-are ∙ levels;
+          alone = subst (λ ds. All (λ es. drivers es ≤ 1) (driven party ds c ps)) drives (run .alone);
+          ends = sym clock ∙ run .ends ∙ ap (λ ds. c + length ds) drives;
+        }
+
     pub goes-to : {a : List Drive} {la : List Bool} {c′ : ℕ} {qs rs : List P} → Goes a c ps la c′ qs → qs ≡ rs → Goes a c ps la c′ rs
-    goes-to run same = record { after = run .after ∙ same; levels-are = run .levels-are; alone = run .alone; ends = run .ends }
+    goes-to run parties = goes-as run refl refl refl parties

@@ -1,0 +1,50 @@
+-- The levels that an answer makes decode to that answer.
+use Prim.Native.Nat.{ℕ, zero, suc, _+_, _-_, _^_, _≤_, _<_}
+use mathlib.Core.Path.{_≡_, refl, ap, ap₂, sym, _∙_}
+use mathlib.Core.Bool.{Bool, true, false, cond}
+use mathlib.Core.List.{List, [], _∷_, _++_, map}
+use native.Mathlib.Omega.{arith}
+use lib.ListN.{length, getD, replicate, length-append, length-map, length-replicate, List·getD-append, List·getD-map}
+use lib.Seq.{getD-append-add}
+use lib.Dec.{eqb}
+use Rattle.verdict.specs.Bits.{bits, valueOf}
+use Rattle.verdict.specs.Lists.{All}
+use Rattle.verdict.specs.Output.{tabulate, join}
+use Rattle.verdict.proofs.Bits.{length-bits, bits-small, value-of-bits}
+use Rattle.verdict.proofs.Lists.{tabulate-of}
+use Rattle.frame.specs.declared.list.Transaction.{Transaction}
+use Rattle.frame.specs.declared.answer.Answer.{Answer}
+use Rattle.frame.specs.List.{isRead}
+use Rattle.frame.specs.Steps.{startSteps, opSteps}
+use Rattle.frame.specs.Answers.{answered, silent, answerTo, readAnswer}
+use Rattle.wire.specs.Wire.{asBit}
+use Rattle.agreement.proofs.Rows.{headerRow, row-long}
+use Rattle.agreement.specs.Agrees.{ones, at, heard, answerLevels, levelsOf}
+
+-- behind preamble and header stands the answer
+module _ (m : ℕ) (t : Transaction) (a : Answer) where
+  at-answer : (i clock : ℕ) → clock ≡ m + 15 + i → at (levelsOf m t a) clock ≡ asBit (getD (answerLevels a ++ (true ∷ [])) i true)
+  unfolding levelsOf join
+  at-answer i clock e =
+      let header : List Bool = ones (join (startSteps ∷ opSteps (isRead t) ∷ bits 5 (t .address) ∷ bits 5 (t .register) ∷ [])) in
+      let long : length header ≡ 14 = ap (λ n. suc (suc n)) (length-map (headerRow t) (λ b. eqb b 1) ∙ row-long t) in
+      let place : clock - 1 ≡ length (replicate m true) + (length header + i) = rw (length-replicate m true) (omega arith) in
+      ap asBit
+      (ap (λ k. getD (levelsOf m t a) k true) place
+      ∙ getD-append-add (replicate m true) (header ++ (answerLevels a ++ (true ∷ []))) (length header + i) true
+      ∙ getD-append-add header (answerLevels a ++ (true ∷ [])) i true)
+
+-- a bit of a row, from its level
+bit-of : (row : List ℕ) (i : ℕ) → All (λ b. b < 2) row → i < length row → asBit (getD (ones row ++ (true ∷ [])) i true) ≡ getD row i 0
+bit-of [] i small within = absurd (omega arith)
+bit-of (zero ∷ row) zero small within = refl
+bit-of (suc zero ∷ row) zero small within = refl
+bit-of (suc (suc b) ∷ row) zero small within = absurd (omega (arith, small .0))
+bit-of (b ∷ row) (suc i) small within = bit-of row i (small .1) (omega arith)
+
+pub heard-read : (m : ℕ) (t : Transaction) (someone : Bool) (word : ℕ) → word < 2 ^ 16 → isRead t ≡ true → let a = cond someone (answerTo t answered word) (answerTo t silent 0) in heard m t (at (levelsOf m t a)) ≡ a
+heard-read m t true word fits read =
+    let levels = at (levelsOf m t (answerTo t answered word)) in
+    let row : bits 16 word ≡ tabulate 16 (λ i. levels (m + 17 + i)) = tabulate-of 16 (λ i. levels (m + 17 + i)) (bits 16 word) 0 (length-bits 16 word) (λ i h. sym (at-answer m t (answerTo t answered word) (suc (suc i)) (m + 17 + i) (omega arith) ∙ bit-of (bits 16 word) i (bits-small 16 word) (rw length-bits h))) in
+    rw (read, at-answer m t (answerTo t answered word) 1 (m + 16) (omega arith), ← row, value-of-bits 16 word fits)
+heard-read m t false word fits read = rw (read, at-answer m t (answerTo t silent 0) 1 (m + 16) (omega arith))

@@ -1,0 +1,116 @@
+-- One transaction: what goes over the wire is what the plain machine does. A read acts at its header alone, a write at its frame's end alone.
+use Prim.Native.Nat.{ℕ, zero, suc, _+_, _*_, _-_, _%_, _^_, _≤_, _<_}
+use mathlib.Core.Path.{_≡_, refl, ap, ap₂, sym, _∙_, subst}
+use mathlib.Core.Bool.{Bool, true, false, cond}
+use mathlib.Core.List.{List, [], _∷_, _++_, map, append-assoc, append-nil}
+use native.Mathlib.Omega.{arith}
+use native.Mathlib.Nat.{mod-eq-of-lt}
+use borrow.Author.Tests.{eqb-true}
+use lib.ListN.{length, replicate, length-map}
+use Rattle.verdict.specs.Bits.{bits, shiftIn}
+use Rattle.verdict.specs.Lists.{All, count}
+use Rattle.verdict.specs.Output.{join}
+use Rattle.verdict.proofs.Bits.{length-bits, bits-small, shiftIn-bits}
+use Rattle.verdict.proofs.Elements.{map-stays, count-none}
+use Rattle.frame.specs.declared.list.Transaction.{Transaction}
+use Rattle.frame.specs.declared.answer.Answer.{Answer}
+use Rattle.frame.specs.List.{isRead}
+use Rattle.frame.specs.Answers.{sent, answered, silent, answerTo}
+use Rattle.wire.specs.declared.Drive.{Drive}
+use Rattle.wire.specs.declared.Drive.the-variants.{Released, Driven}
+use Rattle.wire.specs.Wire.{Party, levelOf, drivers, asBit, stationDrive, runs, driven}
+use Rattle.wire.specs.Machines.{Core, headerFor, quiet, beforeReads, beforeWrites, clocksWith, readOf, plainAnswer, afterRead, afterWrite, plainAfter}
+use Rattle.wire.proofs.Runs.{Goes, goes-as, goes-to}
+use Rattle.wire.proofs.Quiet.{quiet-append}
+use Rattle.agreement.specs.Follows.{Line, Follows, Ready, OneAnswers, rest}
+use Rattle.agreement.specs.Agrees.{Accepted, stationFor, ones, at, heard, answerLevels, levelsOf, Agrees}
+use Rattle.agreement.proofs.Phase.{shown, hears, Fits}
+use Rattle.agreement.proofs.Seen.{hears-row, hears-read, shown-row, nobody-fits, silent-fits}
+use Rattle.agreement.proofs.Reading.{Reading}
+use Rattle.agreement.proofs.Rows.{headerRow, frameRow, station-rows, headerWord, header-long, header-heard, header-shown, header-fits, header-says}
+use Rattle.agreement.proofs.Heard.{heard-read}
+use Rattle.agreement.proofs.Sends.{reads, sends}
+
+module _ {P : Type 0} (wire : Party P) (core : Core P) (line : Line P) (Good : P → Type 0) (laws : Follows wire core line Good)
+    (m : ℕ) (t : Transaction) (c : ℕ) (ps : List P) (accepted : Accepted t) (ready : All (Ready line Good m) ps) (one : OneAnswers core ps) where
+  -- the run of a transaction with an answer a, which leaves the parties qs
+  abbrev Transacts : Answer → List P → Type 0
+  Transacts a qs = Goes wire (stationFor m t) c ps (levelsOf m t a) (c + clocksWith m) (map (rest line) qs)
+
+  reading : Reading core t (quiet core c (beforeReads m) ps)
+  reading = reads wire core line Good laws m t c ps ready one
+
+  -- the parties after a transaction in which the wire said a word
+  leaves : ℕ → List P
+  leaves word =
+      quiet core (c + beforeWrites m) 2
+      (map (core .afterFrame (headerFor t) word)
+      (quiet core (c + beforeReads m) 18
+      (map (core .afterHeader (headerFor t)) (quiet core c (beforeReads m) ps))))
+
+  -- turnaround and data of any shape
+  transacts : (frame : List Drive) (a : Answer) (word : ℕ) → map stationDrive (frameRow t) ≡ frame → length frame ≡ 18 → All (Fits (reading .someone)) frame → hears (reading .someone) (reading .word) 14 frame ≡ answerLevels a → shown (headerWord t accepted) (answerLevels a) % 2 ^ 16 ≡ word → Transacts a (leaves word)
+  unfolding reading leaves levelsOf join
+  transacts frame a word row long fits levels says =
+      goes-as wire
+      (sends wire core line Good laws m t c ps ready one (map stationDrive (headerRow t)) frame (headerWord t accepted) (header-long t accepted) long (header-shown t accepted) (header-fits t accepted) (header-says t accepted) fits)
+      (sym (station-rows m t ∙ ap (λ ds. (replicate m (Driven true) ++ (Driven false ∷ Driven true ∷ [])) ++ (map stationDrive (headerRow t) ++ (ds ++ (Released ∷ [])))) row))
+      (append-assoc (replicate m true) (false ∷ true ∷ []) _ ∙ ap₂ (λ header answer. replicate m true ++ (false ∷ true ∷ (header ++ (answer ++ (true ∷ []))))) (header-heard t accepted) levels)
+      (omega arith)
+      (ap (λ w. map (rest line) (leaves w)) (ap (λ ls. shown (headerWord t accepted) ls % 2 ^ 16) levels ∙ says))
+
+  read-transacts : isRead t ≡ true → Transacts (readOf core t (quiet core c (beforeReads m) ps)) (afterRead core m t c ps)
+  unfolding join leaves
+  read-transacts read =
+      goes-to wire
+      (transacts (replicate 18 Released) (readOf core t (quiet core c (beforeReads m) ps)) _ (rw read) refl (silent-fits (reading .someone) 18)
+      (hears-read (reading .someone) (reading .word) ∙ levels (reading .someone) ∙ ap answerLevels (sym (reading .answer)))
+      refl)
+      (ap (map (rest line)) (acted _))
+    where
+      acted : (word : ℕ) → leaves word ≡ afterRead core m t c ps
+      acted word =
+          ap (quiet core (c + beforeWrites m) 2) (map-stays (core .afterFrame (headerFor t) word) (λ p. laws .read-end (headerFor t) word p (eqb-true (t .op) 2 read)) _)
+          ∙ sym (quiet-append core 18 2 (c + beforeReads m) (c + beforeWrites m) _ (omega arith))
+
+      levels : (someone : Bool) → cond someone (true ∷ false ∷ ones (bits 16 (reading .word))) (replicate 18 true) ≡ answerLevels (cond someone (answerTo t answered (reading .word)) (answerTo t silent 0))
+      levels true = refl
+      levels false = refl
+
+  write-transacts : isRead t ≡ false → Transacts (answerTo t sent (t .«data»)) (afterWrite core m t c ps)
+  unfolding join leaves shiftIn
+  write-transacts write =
+      goes-to wire
+      (transacts (map stationDrive row) (answerTo t sent (t .«data»)) (t .«data») (rw write (ap (λ bs. Driven true ∷ Driven false ∷ map stationDrive bs) (append-nil (bits 16 (t .«data»))))) (ap (λ n. suc (suc n)) (length-map (bits 16 (t .«data»)) stationDrive ∙ length-bits 16 (t .«data»)))
+      (subst (λ b. All (Fits b) (map stationDrive row)) (sym nobody) (nobody-fits (map stationDrive row)))
+      (ap (λ b. hears b (reading .word) 14 (map stationDrive row)) nobody ∙ hears-row (reading .word) 14 row small)
+      says)
+      (ap (map (rest line)) acted)
+    where
+      op : t .op ≡ 1
+      op = accepted .op write
+
+      row : List ℕ
+      row = 1 ∷ 0 ∷ bits 16 (t .«data»)
+
+      small : All (λ b. b < 2) row
+      small = (omega arith, (omega arith, bits-small 16 (t .«data»)))
+
+      unanswered : (someone : Bool) → 0 ≡ asBit someone → someone ≡ false
+      unanswered true e = absurd (omega arith)
+      unanswered false e = refl
+
+      nobody : reading .someone ≡ false
+      nobody = unanswered (reading .someone) (sym (count-none (core .answers (headerFor t)) (quiet core c (beforeReads m) ps) (λ p. laws .write-unanswered (headerFor t) p op)) ∙ reading .voices)
+
+      says : shown (headerWord t accepted) (ones row) % 2 ^ 16 ≡ t .«data»
+      says =
+          let word : shown (headerWord t accepted) (ones row) ≡ ((headerWord t accepted * 2 + 1) * 2 + 0) * 2 ^ 16 + t .«data» % 2 ^ 16 = shown-row 14 (headerWord t accepted) row small (header-fits t accepted) (omega (arith, length-bits 16 (t .«data»))) ∙ shiftIn-bits 16 ((headerWord t accepted * 2 + 1) * 2 + 0) (t .«data») in
+          omega (arith, accepted .word)
+
+      acted : leaves (t .«data») ≡ afterWrite core m t c ps
+      acted =
+          let all : beforeReads m + 18 ≡ beforeWrites m = omega arith in
+          ap (λ qs. quiet core (c + beforeWrites m) 2 (map (core .afterFrame (headerFor t) (t .«data»)) qs))
+          (ap (quiet core (c + beforeReads m) 18) (map-stays (core .afterHeader (headerFor t)) (λ p. laws .write-header (headerFor t) p op) (quiet core c (beforeReads m) ps))
+          ∙ sym (quiet-append core (beforeReads m) 18 c (c + beforeReads m) ps refl) ∙ ap (λ k. quiet core c k ps) all)
