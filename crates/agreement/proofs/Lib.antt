@@ -7,3 +7,5 @@ pub mod Sends
 pub mod Rows
 pub mod Heard
 pub mod Transaction
+pub mod Plain
+pub mod Agreement

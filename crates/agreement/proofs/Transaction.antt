@@ -70,8 +70,11 @@ module _ {P : Type 0} (wire : Party P) (core : Core P) (line : Line P) (Good : P
     where
       acted : (word : ℕ) → leaves word ≡ afterRead core m t c ps
       acted word =
-          ap (quiet core (c + beforeWrites m) 2) (map-stays (core .afterFrame (headerFor t) word) (λ p. laws .read-end (headerFor t) word p (eqb-true (t .op) 2 read)) _)
-          ∙ sym (quiet-append core 18 2 (c + beforeReads m) (c + beforeWrites m) _ (omega arith))
+          let left : 18 + 2 ≡ clocksWith m - beforeReads m = omega arith in
+          let headed : List P = map (core .afterHeader (headerFor t)) (quiet core c (beforeReads m) ps) in
+          ap (quiet core (c + beforeWrites m) 2) (map-stays (core .afterFrame (headerFor t) word) (λ p. laws .read-end (headerFor t) word p (eqb-true (t .op) 2 read)) (quiet core (c + beforeReads m) 18 headed))
+          ∙ sym (quiet-append core 18 2 (c + beforeReads m) (c + beforeWrites m) headed (omega arith))
+          ∙ ap (λ k. quiet core (c + beforeReads m) k headed) left
 
       levels : (someone : Bool) → cond someone (true ∷ false ∷ ones (bits 16 (reading .word))) (replicate 18 true) ≡ answerLevels (cond someone (answerTo t answered (reading .word)) (answerTo t silent 0))
       levels true = refl
@@ -111,6 +114,33 @@ module _ {P : Type 0} (wire : Party P) (core : Core P) (line : Line P) (Good : P
       acted : leaves (t .«data») ≡ afterWrite core m t c ps
       acted =
           let all : beforeReads m + 18 ≡ beforeWrites m = omega arith in
-          ap (λ qs. quiet core (c + beforeWrites m) 2 (map (core .afterFrame (headerFor t) (t .«data»)) qs))
+          let left : 2 ≡ clocksWith m - beforeWrites m = omega arith in
+          ap₂ (λ k qs. quiet core (c + beforeWrites m) k (map (core .afterFrame (headerFor t) (t .«data»)) qs)) left
           (ap (quiet core (c + beforeReads m) 18) (map-stays (core .afterHeader (headerFor t)) (λ p. laws .write-header (headerFor t) p op) (quiet core c (beforeReads m) ps))
           ∙ sym (quiet-append core (beforeReads m) 18 c (c + beforeReads m) ps refl) ∙ ap (λ k. quiet core c k ps) all)
+
+  -- the run of the transaction
+  pub transaction-runs : Transacts (plainAnswer core m t c ps) (plainAfter core m t c ps)
+  transaction-runs = go (isRead t) refl
+    where
+      go : (b : Bool) → isRead t ≡ b → Transacts (cond b (readOf core t (quiet core c (beforeReads m) ps)) (answerTo t sent (t .«data»))) (cond b (afterRead core m t c ps) (afterWrite core m t c ps))
+      go true read = read-transacts read
+      go false write = write-transacts write
+
+  -- what the decoder hears in it
+  pub transaction-heard : heard m t (at (levelsOf m t (plainAnswer core m t c ps))) ≡ plainAnswer core m t c ps
+  transaction-heard = go (isRead t) refl
+    where
+      go : (b : Bool) → isRead t ≡ b → let a = cond b (readOf core t (quiet core c (beforeReads m) ps)) (answerTo t sent (t .«data»)) in heard m t (at (levelsOf m t a)) ≡ a
+      go true read = subst (λ a. heard m t (at (levelsOf m t a)) ≡ a) (sym (reading .answer)) (heard-read m t (reading .someone) (reading .word) (reading .fits) read)
+      go false write = rw write
+
+  pub agrees : Agrees wire core line m t c ps
+  agrees =
+      let run = transaction-runs in
+      record {
+        parties = run .after;
+        levels = run .levels-are;
+        answer = ap (λ ls. heard m t (at ls)) (run .levels-are) ∙ transaction-heard;
+        alone = run .alone;
+      }

@@ -57,10 +57,36 @@ levelsOf m t a =
     ++ (ones (join (startSteps ∷ opSteps (isRead t) ∷ bits 5 (t .address) ∷ bits 5 (t .register) ∷ []))
     ++ (answerLevels a ++ (true ∷ [])))
 
+-- A list of transactions, the first with a preamble of m ones and each later one with n: what the station does, what the decoder hears, the levels that answers make
+unfoldable pub stationForAll : ℕ → ℕ → List Transaction → List Drive
+stationForAll m n [] = []
+stationForAll m n (t ∷ ts) = stationFor m t ++ stationForAll n n ts
+
+unfoldable pub heardAll : ℕ → ℕ → List Transaction → List Bool → List Answer
+heardAll m n [] levels = []
+heardAll m n (t ∷ ts) levels = heard m t (at levels) ∷ heardAll n n ts (drop (clocksWith m) levels)
+
+unfoldable pub levelsOfAll : ℕ → ℕ → List Transaction → List Answer → List Bool
+levelsOfAll m n [] answers = []
+levelsOfAll m n (t ∷ ts) [] = []
+levelsOfAll m n (t ∷ ts) (a ∷ answers) = levelsOf m t a ++ levelsOfAll n n ts answers
+
+-- after no transaction the parties are as they were, after any other they are at rest
+abbrev pub settled : {P : Type 0} → Line P → List Transaction → List P → List P
+settled line [] ps = ps
+settled line (t ∷ ts) ps = map (rest line) ps
+
 module _ {P : Type 0} (wire : Party P) (core : Core P) (line : Line P) where
-  -- one transaction with a preamble of m ones, after c clocks
+  -- one transaction with a preamble of m ones, after c clocks: the parties are those of the plain machine, at rest; the decoder hears the plain answer; in no clock do two drive
   pub record Agrees (m : ℕ) (t : Transaction) (c : ℕ) (ps : List P) : Type 0 where
-    pub after : runs wire (stationFor m t) c ps ≡ map (rest line) (plainAfter core m t c ps)
+    pub parties : runs wire (stationFor m t) c ps ≡ map (rest line) (plainAfter core m t c ps)
     pub levels : map levelOf (driven wire (stationFor m t) c ps) ≡ levelsOf m t (plainAnswer core m t c ps)
     pub answer : heard m t (at (map levelOf (driven wire (stationFor m t) c ps))) ≡ plainAnswer core m t c ps
     pub alone : All (λ drives. drivers drives ≤ 1) (driven wire (stationFor m t) c ps)
+
+  -- the same of a list
+  pub record AgreesAll (m n : ℕ) (ts : List Transaction) (c : ℕ) (ps : List P) : Type 0 where
+    pub parties : runs wire (stationForAll m n ts) c ps ≡ settled line ts (plainParties core m n ts c ps)
+    pub levels : map levelOf (driven wire (stationForAll m n ts) c ps) ≡ levelsOfAll m n ts (plainAnswers core m n ts c ps)
+    pub answers : heardAll m n ts (map levelOf (driven wire (stationForAll m n ts) c ps)) ≡ plainAnswers core m n ts c ps
+    pub alone : All (λ drives. drivers drives ≤ 1) (driven wire (stationForAll m n ts) c ps)

@@ -37,6 +37,10 @@ module _ {P : Type 0} (core : Core P) where
   quiet c zero ps = ps
   quiet c (suc n) ps = quiet (suc c) n (map (core .happens (suc c)) ps)
 
+  -- a clocks, then b more, of which the first has an effect
+  abbrev pub acting : (P → P) → ℕ → ℕ → ℕ → List P → List P
+  acting effect c a b ps = quiet (c + a) b (map effect (quiet c a ps))
+
   -- the answer to a read: of the party that answers its header, else silent
   abbrev pub readOf : Transaction → List P → Answer
   readOf t [] = answerTo t silent 0
@@ -49,14 +53,10 @@ module _ {P : Type 0} (core : Core P) where
     plainAnswer = cond (isRead t) (readOf t (quiet c (beforeReads m) ps)) (answerTo t sent (t .«data»))
 
     abbrev pub afterRead : List P
-    afterRead =
-        quiet (c + beforeReads m) (frameBits - headerBits + 2)
-        (map (core .afterHeader (headerFor t)) (quiet c (beforeReads m) ps))
+    afterRead = acting (core .afterHeader (headerFor t)) c (beforeReads m) (clocksWith m - beforeReads m) ps
 
     abbrev pub afterWrite : List P
-    afterWrite =
-        quiet (c + beforeWrites m) 2
-        (map (core .afterFrame (headerFor t) (t .«data»)) (quiet c (beforeWrites m) ps))
+    afterWrite = acting (core .afterFrame (headerFor t) (t .«data»)) c (beforeWrites m) (clocksWith m - beforeWrites m) ps
 
     abbrev pub plainAfter : List P
     plainAfter = cond (isRead t) afterRead afterWrite
