@@ -11,14 +11,15 @@ use Rattle.verdict.specs.Bits.{bits, valueOf}
 use Rattle.verdict.specs.Lists.{All}
 use Rattle.verdict.specs.Output.{tabulate, join}
 use Rattle.verdict.proofs.Bits.{length-bits, bits-small, value-of-bits}
-use Rattle.verdict.proofs.Lists.{tabulate-of}
+use Rattle.verdict.proofs.Lists.{tabulate-of, tabulate-ext}
 use Rattle.frame.specs.declared.list.Transaction.{Transaction}
 use Rattle.frame.specs.declared.answer.Answer.{Answer}
 use Rattle.frame.specs.List.{isRead}
 use Rattle.frame.specs.Steps.{startSteps, opSteps}
-use Rattle.frame.specs.Answers.{answered, silent, answerTo, readAnswer}
+use Rattle.frame.specs.Answers.{sent, answered, silent, answerTo, readAnswer}
 use Rattle.wire.specs.Wire.{asBit}
-use Rattle.agreement.proofs.Rows.{headerRow, row-long}
+use Rattle.wire.specs.Machines.{clocksWith}
+use Rattle.agreement.proofs.Rows.{headerRow, op-long, row-long}
 use Rattle.agreement.specs.Agrees.{ones, at, heard, answerLevels, levelsOf}
 
 -- behind preamble and header stands the answer
@@ -48,3 +49,24 @@ heard-read m t true word fits read =
     let row : bits 16 word ≡ tabulate 16 (λ i. levels (m + 17 + i)) = tabulate-of 16 (λ i. levels (m + 17 + i)) (bits 16 word) 0 (length-bits 16 word) (λ i h. sym (at-answer m t (answerTo t answered word) (suc (suc i)) (m + 17 + i) (omega arith) ∙ bit-of (bits 16 word) i (bits-small 16 word) (rw length-bits h))) in
     rw (read, at-answer m t (answerTo t answered word) 1 (m + 16) (omega arith), ← row, value-of-bits 16 word fits)
 heard-read m t false word fits read = rw (read, at-answer m t (answerTo t silent 0) 1 (m + 16) (omega arith))
+
+-- the decoder looks at no level but the turnaround's second and those of the data
+pub heard-same : (m : ℕ) (t : Transaction) (level other : ℕ → ℕ) → level (m + 16) ≡ other (m + 16) → ((i : ℕ) → i < 16 → level (m + 17 + i) ≡ other (m + 17 + i)) → heard m t level ≡ heard m t other
+heard-same m t level other second word =
+    ap₂ (λ l row. cond (isRead t) (readAnswer t (record { second = l }) (valueOf row)) (answerTo t sent (t .«data»))) second (tabulate-ext 16 (λ i. level (m + 17 + i)) (λ i. other (m + 17 + i)) word)
+
+pub levels-long : (m : ℕ) (t : Transaction) (a : Answer) → length (levelsOf m t a) ≡ clocksWith m
+unfolding levelsOf join
+levels-long m t a = simp (length-append, length-replicate, length-map, length-bits, op-long, answer-long) (omega arith)
+  where
+    answer-long : (b : Bool) → length (cond b (replicate 18 true) (true ∷ false ∷ ones (bits 16 (a .«data»)))) ≡ 18
+    answer-long true = refl
+    answer-long false = ap (λ n. suc (suc n)) (length-map (bits 16 (a .«data»)) (λ b. eqb b 1) ∙ length-bits 16 (a .«data»))
+
+-- what comes after a transaction's levels is not heard in it
+pub heard-within : (m : ℕ) (t : Transaction) (levels later : List Bool) → length levels ≡ clocksWith m → heard m t (at (levels ++ later)) ≡ heard m t (at levels)
+heard-within m t levels later long =
+    heard-same m t (at (levels ++ later)) (at levels) (within (m + 16) (omega arith) (omega arith)) (λ i h. within (m + 17 + i) (omega arith) (omega arith))
+  where
+    within : (clock : ℕ) → 1 ≤ clock → clock ≤ clocksWith m → at (levels ++ later) clock ≡ at levels clock
+    within clock low high = ap asBit (List·getD-append levels later true (clock - 1) (omega arith))

@@ -46,6 +46,10 @@ station-rows m t =
     ones-driven zero = refl
     ones-driven (suc m) = ap (λ ds. Driven true ∷ ds) (ones-driven m)
 
+pub op-long : (b : Bool) → length (opSteps b) ≡ 2
+op-long true = refl
+op-long false = refl
+
 module _ (t : Transaction) where
   pub row-small : All (λ b. b < 2) (headerRow t)
   unfolding join
@@ -61,10 +65,6 @@ module _ (t : Transaction) where
   pub row-long : length (headerRow t) ≡ 12
   unfolding join
   row-long = simp (length-append, length-bits, op-long)
-    where
-      op-long : (b : Bool) → length (opSteps b) ≡ 2
-      op-long true = refl
-      op-long false = refl
 
 module _ (t : Transaction) (accepted : Accepted t) where
   -- the fourteen bits that the header says

@@ -5,7 +5,7 @@ use mathlib.Core.Bool.{Bool, true, false, cond}
 use mathlib.Core.List.{List}
 use lib.Dec.{leb, eqb}
 use Rattle.verdict.specs.Bits.{bit}
-use Rattle.verdict.specs.Lists.{count}
+use Rattle.verdict.specs.Lists.{All, count}
 use Rattle.frame.specs.Frame.{headerBits, frameBits}
 use Rattle.frame.specs.List.{write, read}
 use Rattle.wire.specs.declared.Drive.{Drive}
@@ -42,6 +42,10 @@ pub record Ready {P : Type 0} (line : Line P) (Good : P → Type 0) (m : ℕ) (p
   pub hunts : line .follower p ≡ Hunting ones
   pub empty : line .captured p ≡ 0
   pub enough : line .enough p ≤ ones + m
+
+-- of a board at most one party answers each header
+abbrev pub OneAnswers : {P : Type 0} → Core P → List P → Type 0
+OneAnswers core ps = (h : Header) → count (core .answers h) ps ≤ 1
 
 module _ {P : Type 0} (wire : Party P) (core : Core P) (line : Line P) (Good : P → Type 0) where
   -- what every effect and every event keeps; it goes by neither follower nor captured word, and touches neither
@@ -94,6 +98,8 @@ module _ {P : Type 0} (wire : Party P) (core : Core P) (line : Line P) (Good : P
     pub write-header : (h : Header) (p : P) → h .op ≡ write → core .afterHeader h p ≡ p
     pub read-end : (h : Header) (w : ℕ) (p : P) → h .op ≡ read → core .afterFrame h w p ≡ p
 
--- "of a board at most one party answers each header"
-abbrev pub OneAnswers : {P : Type 0} → Core P → List P → Type 0
-OneAnswers core ps = (h : Header) → count (core .answers h) ps ≤ 1
+  -- a board that hunts: each party takes a 0 after m ones for a start, and later one after the idle clock's 1 and n more; of all at most one answers each header
+  pub record Hunts (m n : ℕ) (ps : List P) : Type 0 where
+    pub ready : All (Ready line Good m) ps
+    pub later : All (λ p. line .enough p ≤ 1 + n) ps
+    pub one : OneAnswers core ps

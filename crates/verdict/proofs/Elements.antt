@@ -21,6 +21,11 @@ module _ {A : Type 0} where
   all-then Q R [] h l = tt
   all-then Q R (x ∷ xs) h l = (h x (l .0), all-then Q R xs h (l .1))
 
+  -- two facts on every element
+  pub all-both : (Q R S : A → Type 0) (xs : List A) → ((x : A) → Q x → R x → S x) → All Q xs → All R xs → All S xs
+  all-both Q R S [] h q r = tt
+  all-both Q R S (x ∷ xs) h q r = (h x (q .0) (r .0), all-both Q R S xs h (q .1) (r .1))
+
 module _ {A B : Type 0} where
   pub all-map : (Q : A → Type 0) (R : B → Type 0) (f : A → B) (xs : List A) → ((x : A) → Q x → R (f x)) → All Q xs → All R (map f xs)
   all-map Q R f [] h l = tt
