@@ -56,7 +56,7 @@ module _ {P : Type 0} (wire : Party P) (core : Core P) (line : Line P) (Good : P
 
   module _ (speaker : P → Bool) (word : ℕ) (kept : (c : ℕ) (p : P) → speaker (core .happens c p) ≡ speaker p) where
     pub guise-happens : (seen bits c : ℕ) (p : P) → core .happens c (guise line speaker word seen bits p) ≡ guise line speaker word seen bits (core .happens c p)
-    guise-happens seen bits c p = 
+    guise-happens seen bits c p =
         laws .keeps-events c .put (Inside seen bits) (cond (speaker p) word 0) p
         ∙ ap (λ b. line .put (Inside seen bits) (cond b word 0) (core .happens c p)) (sym (kept c p))
 
@@ -66,7 +66,6 @@ module _ {P : Type 0} (wire : Party P) (core : Core P) (line : Line P) (Good : P
         (ordinary : (level : Bool) (n bits : ℕ) (p : P) → Seen n bits → n < last → wire .samples level (guise line speaker word n bits p) ≡ guise line speaker word (suc n) (oneMore bits level) p)
         (next : (level : Bool) (n bits : ℕ) → Seen n bits → n < last → Seen (suc n) (oneMore bits level))
         (acts : (level : Bool) (bits : ℕ) (p : P) → Seen last bits → wire .samples level (guise line speaker word last bits p) ≡ effect (oneMore bits level) p) where
-
       on-wire : (d : Drive) (n bits : ℕ) (ps : List P) → Seen n bits → count speaker ps ≡ asBit someone → Alike (drivesOf wire d (map (guise line speaker word n bits) ps)) (d ∷ cond someone (answering n word) Released ∷ [])
       on-wire d n bits ps seen voices =
           let drive : map (wire .drives) (map (guise line speaker word n bits) ps) ≡ map (says speaker (answering n word)) ps = map-then (wire .drives) (guise line speaker word n bits) (says speaker (answering n word)) (λ p. speaks n bits p seen) ps in

@@ -70,19 +70,19 @@ module _ {P : Type 0} (wire : Party P) (core : Core P) (line : Line P) (Good : P
   pub record Clocked : Type 0 where
     pub hunting-drives : (ones w : ℕ) (p : P) → wire .drives (line .put (Hunting ones) w p) ≡ Released
     pub inside-drives : (seen bits w : ℕ) (p : P) → seen < frameBits →
-      wire .drives (line .put (Inside seen bits) w p) ≡ cond (core .answers (headerSeen seen bits) p) (answering seen w) Released
+        wire .drives (line .put (Inside seen bits) w p) ≡ cond (core .answers (headerSeen seen bits) p) (answering seen w) Released
     pub hunting : (level : Bool) (ones : ℕ) (p : P) →
-      wire .samples level (line .put (Hunting ones) 0 p) ≡ line .put (follow (line .enough p) level (Hunting ones)) 0 p
+        wire .samples level (line .put (Hunting ones) 0 p) ≡ line .put (follow (line .enough p) level (Hunting ones)) 0 p
     pub inside : (level : Bool) (seen bits w : ℕ) (p : P) → seen < frameBits - 1 → (seen ≡ headerBits - 1 → ⊥) →
-      wire .samples level (line .put (Inside seen bits) w p) ≡ line .put (follow (line .enough p) level (Inside seen bits)) w p
+        wire .samples level (line .put (Inside seen bits) w p) ≡ line .put (follow (line .enough p) level (Inside seen bits)) w p
     pub header : (level : Bool) (bits : ℕ) (p : P) →
-      let h = headerOf (oneMore bits level) in
-      wire .samples level (line .put (Inside (headerBits - 1) bits) 0 p)
-      ≡ line .put (Inside headerBits (oneMore bits level)) (cond (core .answers h p) (core .word h p) 0) (core .afterHeader h p)
+        let h = headerOf (oneMore bits level) in
+        wire .samples level (line .put (Inside (headerBits - 1) bits) 0 p)
+        ≡ line .put (Inside headerBits (oneMore bits level)) (cond (core .answers h p) (core .word h p) 0) (core .afterHeader h p)
     pub end : (level : Bool) (bits w : ℕ) (p : P) →
-      let frame = oneMore bits level in
-      wire .samples level (line .put (Inside (frameBits - 1) bits) w p)
-      ≡ line .put (Hunting 0) 0 (core .afterFrame (headerSeen frameBits frame) (frame % 2 ^ 16) p)
+        let frame = oneMore bits level in
+        wire .samples level (line .put (Inside (frameBits - 1) bits) w p)
+        ≡ line .put (Hunting 0) 0 (core .afterFrame (headerSeen frameBits frame) (frame % 2 ^ 16) p)
 
   -- a party that follows frames: the laws of its parts, and what a read and a write are to it
   pub record Follows : Type 0 where
