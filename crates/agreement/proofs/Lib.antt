@@ -4,8 +4,3 @@ pub mod Seen
 pub mod Reading
 pub mod Frame
 pub mod Sends
-pub mod Rows
-pub mod Heard
-pub mod Transaction
-pub mod Plain
-pub mod Agreement

@@ -16,7 +16,7 @@ use Rattle.wire.specs.declared.Drive.the-variants.{Released, Driven}
 use Rattle.wire.specs.Wire.{levelOf, drivers, stationDrive}
 use Rattle.wire.specs.Follower.{oneMore, headerOf, headerSeen}
 use Rattle.agreement.specs.Follows.{answering}
-use Rattle.agreement.specs.Agrees.{ones}
+use Rattle.agreement.specs.Levels.{ones}
 use Rattle.agreement.proofs.Phase.{shown, hears, Fits}
 
 -- the station sends a row of bits while nobody answers: the row is heard

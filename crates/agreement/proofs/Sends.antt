@@ -13,17 +13,18 @@ use Rattle.wire.specs.declared.Drive.the-variants.{Released, Driven}
 use Rattle.wire.specs.declared.Follower.the-variants.{Hunting, Inside}
 use Rattle.wire.specs.declared.Header.{Header}
 use Rattle.wire.specs.Wire.{Party, asBit}
-use Rattle.wire.specs.Follower.{headerOf, follow}
+use Rattle.wire.specs.Follower.{follow, headerSeen}
 use Rattle.wire.specs.Machines.{Core, headerFor, quiet, beforeReads, beforeWrites}
 use Rattle.wire.proofs.Runs.{Goes, goes-append, goes-to}
 use Rattle.wire.proofs.Quiet.{quiet-clock, quiet-append, quiet-all, quiet-count}
-use Rattle.agreement.specs.Follows.{Line, Follows, Ready, OneAnswers, rest}
+use Rattle.agreement.specs.Follows.{Line, Follows, Ready, OneAnswers}
+use Rattle.agreement.specs.Agrees.{rest}
 use Rattle.agreement.proofs.Phase.{shown, hears, Fits, guise, guise-happens}
 use Rattle.agreement.proofs.Start.{starts, put-clock}
 use Rattle.agreement.proofs.Reading.{Captures, Reading, reading}
 use Rattle.agreement.proofs.Frame.{headerEffect, header-phase, frameEffect, frame-phase}
 
-module _ {P : Type 0} (wire : Party P) (core : Core P) (line : Line P) (Good : P → Type 0) (laws : Follows wire core line Good) where
+module _ {P : Type 0} {wire : Party P} {core : Core P} {line : Line P} {Good : P → Type 0} (laws : Follows wire core line Good) where
   module _ (m : ℕ) (t : Transaction) (c : ℕ) (ps : List P) (ready : All (Ready line Good m) ps) (one : OneAnswers core ps) where
     -- what the parties at the header's last clock make of it
     pub reads : Reading core t (quiet core c (beforeReads m) ps)
@@ -31,10 +32,10 @@ module _ {P : Type 0} (wire : Party P) (core : Core P) (line : Line P) (Good : P
         reading core t (quiet core c (beforeReads m) ps)
         (rw (quiet-count core (core .answers (headerFor t)) (λ c p. laws .keeps-events c .answers (headerFor t) p) c (beforeReads m) ps) (one (headerFor t)))
         (all-then Good (λ p. core .word (headerFor t) p < 2 ^ 16) (quiet core c (beforeReads m) ps) (λ p good. laws .word-fits (headerFor t) p good)
-        (quiet-all core Good (λ c p good. laws .keeps-events c .good p good) c (beforeReads m) ps (all-then (Ready line Good m) Good ps (λ p r. r .good) ready)))
+        (quiet-all core Good (λ c p good. laws .keeps-events c .good p good) c (beforeReads m) ps (all-then (Ready line Good m) Good ps (λ p r. r .waits .good) ready)))
 
     module _ (header frame : List Drive) (bits : ℕ) (header-long : length header ≡ 12) (frame-long : length frame ≡ 18)
-        (seen : shown 1 (hears false 0 2 header) ≡ bits) (fits : bits < 2 ^ 14) (says : headerOf bits ≡ headerFor t)
+        (seen : shown 1 (hears false 0 2 header) ≡ bits) (fits : bits < 2 ^ 14) (says : headerSeen 14 bits ≡ headerFor t)
         (alone : All (Fits (reads .someone)) frame) where
       -- the levels of turnaround and data
       abbrev pub heardThen : List Bool
@@ -47,18 +48,18 @@ module _ {P : Type 0} (wire : Party P) (core : Core P) (line : Line P) (Good : P
       header-run : Goes wire header (suc (suc (c + m))) (map (line .put (Inside 2 1) 0) (quiet core c (suc (suc m)) ps)) (hears false 0 2 header) (suc (c + beforeReads m)) (map (guise line (core .answers (headerFor t)) (reads .word) 14 bits) (map (core .happens (suc (c + beforeReads m))) headed))
       unfolding headed
       header-run =
-          goes-to wire (header-phase wire core line Good laws header 1 (suc (suc (c + m))) (c + beforeReads m) (quiet core c (suc (suc m)) ps) header-long (omega arith))
-          (ap (map (core .happens (suc (c + beforeReads m)))) (ap₂ (λ w qs. map (headerEffect wire core line Good laws w) qs) seen before ∙ captured)
-          ∙ map-past (guise line (core .answers (headerFor t)) (reads .word) 14 bits) (core .happens (suc (c + beforeReads m))) (guise-happens wire core line Good laws (core .answers (headerFor t)) (reads .word) (λ c p. laws .keeps-events c .answers (headerFor t) p) 14 bits (suc (c + beforeReads m))) headed)
+          goes-to wire (header-phase laws header 1 (suc (suc (c + m))) (c + beforeReads m) (quiet core c (suc (suc m)) ps) header-long (omega arith))
+          (ap (map (core .happens (suc (c + beforeReads m)))) (ap₂ (λ w qs. map (headerEffect core line w) qs) seen before ∙ captured)
+          ∙ map-past (guise line (core .answers (headerFor t)) (reads .word) 14 bits) (core .happens (suc (c + beforeReads m))) (guise-happens laws (core .answers (headerFor t)) (reads .word) (λ c p. laws .keeps-events c .answers (headerFor t) p) 14 bits (suc (c + beforeReads m))) headed)
         where
           before : quiet core (suc (suc (c + m))) 11 (quiet core c (suc (suc m)) ps) ≡ quiet core c (beforeReads m) ps
           before =
               let all : suc (suc m) + 11 ≡ beforeReads m = omega arith in
               sym (quiet-append core (suc (suc m)) 11 c (suc (suc (c + m))) ps (omega arith)) ∙ ap (λ k. quiet core c k ps) all
 
-          captured : map (headerEffect wire core line Good laws bits) (quiet core c (beforeReads m) ps) ≡ map (guise line (core .answers (headerFor t)) (reads .word) 14 bits) headed
+          captured : map (headerEffect core line bits) (quiet core c (beforeReads m) ps) ≡ map (guise line (core .answers (headerFor t)) (reads .word) 14 bits) headed
           captured =
-              map-same (headerEffect wire core line Good laws bits) (λ p. guise line (core .answers (headerFor t)) (reads .word) 14 bits (core .afterHeader (headerFor t) p)) (quiet core c (beforeReads m) ps)
+              map-same (headerEffect core line bits) (λ p. guise line (core .answers (headerFor t)) (reads .word) 14 bits (core .afterHeader (headerFor t) p)) (quiet core c (beforeReads m) ps)
               (all-then (Captures core t (reads .word)) _ (quiet core c (beforeReads m) ps)
               (λ p word. ap (λ h. line .put (Inside 14 bits) (cond (core .answers h p) (core .word h p) 0) (core .afterHeader h p)) says
               ∙ ap (λ w. line .put (Inside 14 bits) w (core .afterHeader (headerFor t) p)) (word ∙ ap (λ b. cond b (reads .word) 0) (sym (laws .keeps-header (headerFor t) .answers (headerFor t) p))))
@@ -72,8 +73,8 @@ module _ {P : Type 0} (wire : Party P) (core : Core P) (line : Line P) (Good : P
       frame-run : Goes wire frame (suc (c + beforeReads m)) (map (guise line (core .answers (headerFor t)) (reads .word) 14 bits) (map (core .happens (suc (c + beforeReads m))) headed)) heardThen (suc (c + beforeWrites m)) (map (line .put (Hunting 0) 0) (map (core .happens (suc (c + beforeWrites m))) framed))
       unfolding headed framed
       frame-run =
-          goes-to wire (frame-phase wire core line Good laws (headerFor t) (reads .someone) (reads .word) frame bits (suc (c + beforeReads m)) (c + beforeWrites m) (map (core .happens (suc (c + beforeReads m))) headed) frame-long (omega arith) fits says voices alone)
-          (ap (map (core .happens (suc (c + beforeWrites m)))) (ap (map (frameEffect wire core line Good laws (headerFor t) (shown bits heardThen))) (quiet-clock core (c + beforeReads m) 17 headed) ∙ sym (map-then (line .put (Hunting 0) 0) (core .afterFrame (headerFor t) (shown bits heardThen % 2 ^ 16)) _ (λ p. refl) (quiet core (c + beforeReads m) 18 headed)))
+          goes-to wire (frame-phase laws (headerFor t) (reads .someone) (reads .word) frame bits (suc (c + beforeReads m)) (c + beforeWrites m) (map (core .happens (suc (c + beforeReads m))) headed) frame-long (omega arith) fits says voices alone)
+          (ap (map (core .happens (suc (c + beforeWrites m)))) (ap (map (frameEffect core line (headerFor t) (shown bits heardThen))) (quiet-clock core (c + beforeReads m) 17 headed) ∙ sym (map-then (line .put (Hunting 0) 0) (core .afterFrame (headerFor t) (shown bits heardThen % 2 ^ 16)) _ (λ p. refl) (quiet core (c + beforeReads m) 18 headed)))
           ∙ map-past (line .put (Hunting 0) 0) (core .happens (suc (c + beforeWrites m))) (λ p. laws .keeps-events (suc (c + beforeWrites m)) .put (Hunting 0) 0 p) framed)
         where
           voices : count (core .answers (headerFor t)) (map (core .happens (suc (c + beforeReads m))) headed) ≡ asBit (reads .someone)
@@ -85,10 +86,10 @@ module _ {P : Type 0} (wire : Party P) (core : Core P) (line : Line P) (Good : P
       idle-run : Goes wire (Released ∷ []) (suc (c + beforeWrites m)) (map (line .put (Hunting 0) 0) (map (core .happens (suc (c + beforeWrites m))) framed)) (true ∷ []) (suc (suc (c + beforeWrites m))) (map (rest line) (quiet core (c + beforeWrites m) 2 framed))
       unfolding follow quiet
       idle-run =
-          put-clock wire core line Good laws Released true (Hunting 0) (Hunting 1) 0 0 (suc (c + beforeWrites m)) (map (core .happens (suc (c + beforeWrites m))) framed) (λ p. laws .clocked .hunting-drives 0 0 p) refl (λ p. laws .clocked .hunting true 0 p)
+          put-clock laws Released true (Hunting 0) (Hunting 1) 0 0 (suc (c + beforeWrites m)) (map (core .happens (suc (c + beforeWrites m))) framed) (λ p. laws .clocked .hunting-drives 0 0 p) refl (λ p. laws .clocked .hunting true 0 p)
 
       pub sends : Goes wire ((replicate m (Driven true) ++ (Driven false ∷ Driven true ∷ [])) ++ (header ++ (frame ++ (Released ∷ [])))) c ps ((replicate m true ++ (false ∷ true ∷ [])) ++ (hears false 0 2 header ++ (heardThen ++ (true ∷ [])))) (suc (suc (c + beforeWrites m))) (map (rest line) (quiet core (c + beforeWrites m) 2 (map (core .afterFrame (headerFor t) (shown bits heardThen % 2 ^ 16)) (quiet core (c + beforeReads m) 18 (map (core .afterHeader (headerFor t)) (quiet core c (beforeReads m) ps))))))
       unfolding headed framed
       sends =
-          goes-append wire (starts wire core line Good laws m c (c + m) ps refl ready)
+          goes-append wire (starts laws m c (c + m) ps refl ready)
           (goes-append wire header-run (goes-append wire frame-run idle-run))
