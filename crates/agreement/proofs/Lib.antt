@@ -4,3 +4,9 @@ pub mod Seen
 pub mod Reading
 pub mod Frame
 pub mod Sends
+pub mod Rows
+pub mod Heard
+pub mod Transaction
+pub mod Plain
+pub mod Lists
+pub mod Accepted

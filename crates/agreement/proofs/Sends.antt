@@ -1,6 +1,6 @@
 -- A whole transaction on the wire: preamble and start, header, turnaround and data, idle, one after the other.
-use Prim.Native.Nat.{ℕ, zero, suc, _+_, _*_, _-_, _%_, _^_, _≤_, _<_}
-use mathlib.Core.Path.{_≡_, refl, ap, ap₂, sym, _∙_, subst}
+use Prim.Native.Nat.{ℕ, suc, _+_, _%_, _^_, _<_}
+use mathlib.Core.Path.{_≡_, refl, ap, ap₂, sym, _∙_}
 use mathlib.Core.Bool.{Bool, true, false, cond}
 use mathlib.Core.List.{List, [], _∷_, _++_, map}
 use native.Mathlib.Omega.{arith}
@@ -24,72 +24,92 @@ use Rattle.agreement.proofs.Start.{starts, put-clock}
 use Rattle.agreement.proofs.Reading.{Captures, Reading, reading}
 use Rattle.agreement.proofs.Frame.{headerEffect, header-phase, frameEffect, frame-phase}
 
-module _ {P : Type 0} {wire : Party P} {core : Core P} {line : Line P} {Good : P → Type 0} (laws : Follows wire core line Good) where
-  module _ (m : ℕ) (t : Transaction) (c : ℕ) (ps : List P) (ready : All (Ready line Good m) ps) (one : OneAnswers core ps) where
-    -- what the parties at the header's last clock make of it
-    pub reads : Reading core t (quiet core c (beforeReads m) ps)
-    reads =
-        reading core t (quiet core c (beforeReads m) ps)
-        (rw (quiet-count core (core .answers (headerFor t)) (λ c p. laws .keeps-events c .answers (headerFor t) p) c (beforeReads m) ps) (one (headerFor t)))
-        (all-then Good (λ p. core .word (headerFor t) p < 2 ^ 16) (quiet core c (beforeReads m) ps) (λ p good. laws .word-fits (headerFor t) p good)
-        (quiet-all core Good (λ c p good. laws .keeps-events c .good p good) c (beforeReads m) ps (all-then (Ready line Good m) Good ps (λ p r. r .waits .good) ready)))
+module _ {P : Type 0} (core : Core P) (m : ℕ) (t : Transaction) (c : ℕ) (ps : List P) where
+  -- the parties at the header's last clock, before and after its effect, and at the frame's last clock, after its effect of a word
+  abbrev pub atHeader : List P
+  atHeader = quiet core c (beforeReads m) ps
 
-    module _ (header frame : List Drive) (bits : ℕ) (header-long : length header ≡ 12) (frame-long : length frame ≡ 18)
-        (seen : shown 1 (hears false 0 2 header) ≡ bits) (fits : bits < 2 ^ 14) (says : headerSeen 14 bits ≡ headerFor t)
-        (alone : All (Fits (reads .someone)) frame) where
-      -- the levels of turnaround and data
-      abbrev pub heardThen : List Bool
-      heardThen = hears (reads .someone) (reads .word) 14 frame
+  unfoldable pub headed : List P
+  headed = map (core .afterHeader (headerFor t)) atHeader
 
-      -- the parties after the header's last clock, before its events
-      headed : List P
-      headed = map (core .afterHeader (headerFor t)) (quiet core c (beforeReads m) ps)
+  unfoldable pub framed : ℕ → List P
+  framed word = map (core .afterFrame (headerFor t) word) (quiet core (c + beforeReads m) 18 headed)
 
-      header-run : Goes wire header (suc (suc (c + m))) (map (line .put (Inside 2 1) 0) (quiet core c (suc (suc m)) ps)) (hears false 0 2 header) (suc (c + beforeReads m)) (map (guise line (core .answers (headerFor t)) (reads .word) 14 bits) (map (core .happens (suc (c + beforeReads m))) headed))
-      unfolding headed
-      header-run =
-          goes-to wire (header-phase laws header 1 (suc (suc (c + m))) (c + beforeReads m) (quiet core c (suc (suc m)) ps) header-long (omega arith))
-          (ap (map (core .happens (suc (c + beforeReads m)))) (ap₂ (λ w qs. map (headerEffect core line w) qs) seen before ∙ captured)
-          ∙ map-past (guise line (core .answers (headerFor t)) (reads .word) 14 bits) (core .happens (suc (c + beforeReads m))) (guise-happens laws (core .answers (headerFor t)) (reads .word) (λ c p. laws .keeps-events c .answers (headerFor t) p) 14 bits (suc (c + beforeReads m))) headed)
-        where
-          before : quiet core (suc (suc (c + m))) 11 (quiet core c (suc (suc m)) ps) ≡ quiet core c (beforeReads m) ps
-          before =
-              let all : suc (suc m) + 11 ≡ beforeReads m = omega arith in
-              sym (quiet-append core (suc (suc m)) 11 c (suc (suc (c + m))) ps (omega arith)) ∙ ap (λ k. quiet core c k ps) all
+module _ {P : Type 0} {wire : Party P} {core : Core P} {line : Line P} {Good : P → Type 0} (laws : Follows wire core line Good)
+    (m : ℕ) (t : Transaction) (c : ℕ) (ps : List P) (ready : All (Ready line Good m) ps) (one : OneAnswers core ps) where
+  -- what the parties make of the header
+  pub reads : Reading core t (atHeader core m t c ps)
+  reads =
+      reading core t (atHeader core m t c ps)
+      (rw (quiet-count core (core .answers (headerFor t)) (λ c. laws .keeps-events c .answers (headerFor t)) c (beforeReads m) ps) (one (headerFor t)))
+      (all-then Good (λ p. core .word (headerFor t) p < 2 ^ 16) (atHeader core m t c ps) (laws .word-fits (headerFor t))
+      (quiet-all core Good (λ c. laws .keeps-events c .good) c (beforeReads m) ps (all-then (Ready line Good m) Good ps (λ p r. r .waits .good) ready)))
 
-          captured : map (headerEffect core line bits) (quiet core c (beforeReads m) ps) ≡ map (guise line (core .answers (headerFor t)) (reads .word) 14 bits) headed
-          captured =
-              map-same (headerEffect core line bits) (λ p. guise line (core .answers (headerFor t)) (reads .word) 14 bits (core .afterHeader (headerFor t) p)) (quiet core c (beforeReads m) ps)
-              (all-then (Captures core t (reads .word)) _ (quiet core c (beforeReads m) ps)
-              (λ p word. ap (λ h. line .put (Inside 14 bits) (cond (core .answers h p) (core .word h p) 0) (core .afterHeader h p)) says
-              ∙ ap (λ w. line .put (Inside 14 bits) w (core .afterHeader (headerFor t) p)) (word ∙ ap (λ b. cond b (reads .word) 0) (sym (laws .keeps-header (headerFor t) .answers (headerFor t) p))))
-              (reads .captures))
-              ∙ sym (map-then (guise line (core .answers (headerFor t)) (reads .word) 14 bits) (core .afterHeader (headerFor t)) _ (λ p. refl) (quiet core c (beforeReads m) ps))
+  -- what the station sends: the header's bits from the third on, then turnaround and data
+  module _ (header frame : List Drive) (bits : ℕ) (header-long : length header ≡ 12) (frame-long : length frame ≡ 18)
+      (seen : shown 1 (hears false 0 2 header) ≡ bits) (fits : bits < 2 ^ 14) (says : headerSeen 14 bits ≡ headerFor t)
+      (alone : All (Fits (reads .someone)) frame) where
+    abbrev inFrame : P → P
+    inFrame = guise line (core .answers (headerFor t)) (reads .word) 14 bits
 
-      -- the parties at the frame's last clock
-      framed : List P
-      framed = map (core .afterFrame (headerFor t) (shown bits heardThen % 2 ^ 16)) (quiet core (c + beforeReads m) 18 headed)
+    -- the levels of turnaround and data
+    abbrev pub answered : List Bool
+    answered = hears (reads .someone) (reads .word) 14 frame
 
-      frame-run : Goes wire frame (suc (c + beforeReads m)) (map (guise line (core .answers (headerFor t)) (reads .word) 14 bits) (map (core .happens (suc (c + beforeReads m))) headed)) heardThen (suc (c + beforeWrites m)) (map (line .put (Hunting 0) 0) (map (core .happens (suc (c + beforeWrites m))) framed))
-      unfolding headed framed
-      frame-run =
-          goes-to wire (frame-phase laws (headerFor t) (reads .someone) (reads .word) frame bits (suc (c + beforeReads m)) (c + beforeWrites m) (map (core .happens (suc (c + beforeReads m))) headed) frame-long (omega arith) fits says voices alone)
-          (ap (map (core .happens (suc (c + beforeWrites m)))) (ap (map (frameEffect core line (headerFor t) (shown bits heardThen))) (quiet-clock core (c + beforeReads m) 17 headed) ∙ sym (map-then (line .put (Hunting 0) 0) (core .afterFrame (headerFor t) (shown bits heardThen % 2 ^ 16)) _ (λ p. refl) (quiet core (c + beforeReads m) 18 headed)))
-          ∙ map-past (line .put (Hunting 0) 0) (core .happens (suc (c + beforeWrites m))) (λ p. laws .keeps-events (suc (c + beforeWrites m)) .put (Hunting 0) 0 p) framed)
-        where
-          voices : count (core .answers (headerFor t)) (map (core .happens (suc (c + beforeReads m))) headed) ≡ asBit (reads .someone)
-          voices =
-              count-kept (core .answers (headerFor t)) (core .happens (suc (c + beforeReads m))) (laws .keeps-events (suc (c + beforeReads m)) .answers (headerFor t)) headed
-              ∙ count-kept (core .answers (headerFor t)) (core .afterHeader (headerFor t)) (laws .keeps-header (headerFor t) .answers (headerFor t)) (quiet core c (beforeReads m) ps)
-              ∙ reads .voices
+    -- who answers captures the word that is read
+    captured : map (headerEffect core line bits) (atHeader core m t c ps) ≡ map inFrame (headed core m t c ps)
+    unfolding headed
+    captured =
+        map-same (headerEffect core line bits) (λ p. inFrame (core .afterHeader (headerFor t) p)) (atHeader core m t c ps)
+        (all-then (Captures core t (reads .word)) _ (atHeader core m t c ps) capture (reads .captures))
+        ∙ sym (map-then inFrame (core .afterHeader (headerFor t)) _ (λ p. refl) (atHeader core m t c ps))
+      where
+        capture : (p : P) → Captures core t (reads .word) p → headerEffect core line bits p ≡ inFrame (core .afterHeader (headerFor t) p)
+        capture p word =
+            ap (λ h. line .put (Inside 14 bits) (cond (core .answers h p) (core .word h p) 0) (core .afterHeader h p)) says
+            ∙ ap (λ w. line .put (Inside 14 bits) w (core .afterHeader (headerFor t) p)) (word ∙ ap (λ b. cond b (reads .word) 0) (sym (laws .keeps-header (headerFor t) .answers (headerFor t) p)))
 
-      idle-run : Goes wire (Released ∷ []) (suc (c + beforeWrites m)) (map (line .put (Hunting 0) 0) (map (core .happens (suc (c + beforeWrites m))) framed)) (true ∷ []) (suc (suc (c + beforeWrites m))) (map (rest line) (quiet core (c + beforeWrites m) 2 framed))
-      unfolding follow quiet
-      idle-run =
-          put-clock laws Released true (Hunting 0) (Hunting 1) 0 0 (suc (c + beforeWrites m)) (map (core .happens (suc (c + beforeWrites m))) framed) (λ p. laws .clocked .hunting-drives 0 0 p) refl (λ p. laws .clocked .hunting true 0 p)
+    header-run : Goes wire header (suc (suc (c + m))) (map (line .put (Inside 2 1) 0) (quiet core c (suc (suc m)) ps)) (hears false 0 2 header)
+        (suc (c + beforeReads m)) (map inFrame (map (core .happens (suc (c + beforeReads m))) (headed core m t c ps)))
+    header-run =
+        let all : suc (suc m) + 11 ≡ beforeReads m = omega arith in
+        let before : quiet core (suc (suc (c + m))) 11 (quiet core c (suc (suc m)) ps) ≡ atHeader core m t c ps = sym (quiet-append core (suc (suc m)) 11 c (suc (suc (c + m))) ps (omega arith)) ∙ ap (λ k. quiet core c k ps) all in
+        goes-to wire (header-phase laws header 1 (suc (suc (c + m))) (c + beforeReads m) (quiet core c (suc (suc m)) ps) header-long (omega arith))
+        (ap (map (core .happens (suc (c + beforeReads m)))) (ap₂ (λ w qs. map (headerEffect core line w) qs) seen before ∙ captured)
+        ∙ map-past inFrame (core .happens (suc (c + beforeReads m))) (guise-happens laws (core .answers (headerFor t)) (reads .word) (λ c. laws .keeps-events c .answers (headerFor t)) 14 bits (suc (c + beforeReads m))) (headed core m t c ps))
 
-      pub sends : Goes wire ((replicate m (Driven true) ++ (Driven false ∷ Driven true ∷ [])) ++ (header ++ (frame ++ (Released ∷ [])))) c ps ((replicate m true ++ (false ∷ true ∷ [])) ++ (hears false 0 2 header ++ (heardThen ++ (true ∷ [])))) (suc (suc (c + beforeWrites m))) (map (rest line) (quiet core (c + beforeWrites m) 2 (map (core .afterFrame (headerFor t) (shown bits heardThen % 2 ^ 16)) (quiet core (c + beforeReads m) 18 (map (core .afterHeader (headerFor t)) (quiet core c (beforeReads m) ps))))))
-      unfolding headed framed
-      sends =
-          goes-append wire (starts laws m c (c + m) ps refl ready)
-          (goes-append wire header-run (goes-append wire frame-run idle-run))
+    voices : count (core .answers (headerFor t)) (map (core .happens (suc (c + beforeReads m))) (headed core m t c ps)) ≡ asBit (reads .someone)
+    unfolding headed
+    voices =
+        count-kept (core .answers (headerFor t)) (core .happens (suc (c + beforeReads m))) (laws .keeps-events (suc (c + beforeReads m)) .answers (headerFor t)) (headed core m t c ps)
+        ∙ count-kept (core .answers (headerFor t)) (core .afterHeader (headerFor t)) (laws .keeps-header (headerFor t) .answers (headerFor t)) (atHeader core m t c ps)
+        ∙ reads .voices
+
+    abbrev after : List P
+    after = framed core m t c ps (shown bits answered % 2 ^ 16)
+
+    frame-run : Goes wire frame (suc (c + beforeReads m)) (map inFrame (map (core .happens (suc (c + beforeReads m))) (headed core m t c ps))) answered
+        (suc (c + beforeWrites m)) (map (line .put (Hunting 0) 0) (map (core .happens (suc (c + beforeWrites m))) after))
+    unfolding framed
+    frame-run =
+        let effect : P → P = frameEffect core line (headerFor t) (shown bits answered) in
+        let headed = headed core m t c ps in
+        goes-to wire (frame-phase laws (headerFor t) (reads .someone) (reads .word) frame bits (suc (c + beforeReads m)) (c + beforeWrites m) (map (core .happens (suc (c + beforeReads m))) headed) frame-long (omega arith) fits says voices alone)
+        (ap (map (core .happens (suc (c + beforeWrites m))))
+        (ap (map effect) (quiet-clock core (c + beforeReads m) 17 headed)
+        ∙ sym (map-then (line .put (Hunting 0) 0) (core .afterFrame (headerFor t) (shown bits answered % 2 ^ 16)) effect (λ p. refl) (quiet core (c + beforeReads m) 18 headed)))
+        ∙ map-past (line .put (Hunting 0) 0) (core .happens (suc (c + beforeWrites m))) (laws .keeps-events (suc (c + beforeWrites m)) .put (Hunting 0) 0) after)
+
+    idle-run : Goes wire (Released ∷ []) (suc (c + beforeWrites m)) (map (line .put (Hunting 0) 0) (map (core .happens (suc (c + beforeWrites m))) after)) (true ∷ [])
+        (suc (suc (c + beforeWrites m))) (map (rest line) (quiet core (c + beforeWrites m) 2 after))
+    unfolding follow quiet
+    idle-run =
+        put-clock laws Released true (Hunting 0) (Hunting 1) 0 0 (suc (c + beforeWrites m)) (map (core .happens (suc (c + beforeWrites m))) after)
+        (laws .clocked .hunting-drives 0 0) refl (laws .clocked .hunting true 0)
+
+    pub sends : Goes wire ((replicate m (Driven true) ++ (Driven false ∷ Driven true ∷ [])) ++ (header ++ (frame ++ (Released ∷ [])))) c ps
+        ((replicate m true ++ (false ∷ true ∷ [])) ++ (hears false 0 2 header ++ (answered ++ (true ∷ []))))
+        (suc (suc (c + beforeWrites m))) (map (rest line) (quiet core (c + beforeWrites m) 2 (framed core m t c ps (shown bits answered % 2 ^ 16))))
+    sends =
+        goes-append wire (starts laws m c (c + m) ps refl ready)
+        (goes-append wire header-run (goes-append wire frame-run idle-run))

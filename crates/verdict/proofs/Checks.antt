@@ -97,3 +97,8 @@ all-pass-done fault v k zero h = refl
 all-pass-done fault v k (suc left) h =
     rw (h k (omega arith) (omega arith))
     (all-pass-done fault v (suc k) left (λ i f l. h i (omega arith) (omega arith)))
+
+-- a check that lets the answer be done found nothing, and what comes after it is done
+pub refuse-done : (c k n : ℕ) (v : Verdict) → refuse c k v ≡ Done n → (c ≡ 0) × (v ≡ Done n)
+refuse-done zero k n v e = (refl, e)
+refuse-done (suc c) k n v e = absurd (let z : _≡_ {A = ℕ} 0 1 = cc in omega arith)

@@ -31,6 +31,11 @@ beforeWrites m = m + frameBits - 1
 abbrev pub clocksWith : ℕ → ℕ
 clocksWith m = m + frameBits + 1
 
+-- the clocks of a list, whose first transaction has a preamble of m ones and each later one of n
+unfoldable pub clocksOf : ℕ → ℕ → List Transaction → ℕ
+clocksOf m n [] = 0
+clocksOf m n (t ∷ ts) = clocksWith m + clocksOf n n ts
+
 module _ {P : Type 0} (core : Core P) where
   -- n clocks in which nothing acts, after c clocks: their events alone
   unfoldable pub quiet : ℕ → ℕ → List P → List P
@@ -61,7 +66,7 @@ module _ {P : Type 0} (core : Core P) where
     abbrev pub plainAfter : List P
     plainAfter = cond (isRead t) afterRead afterWrite
 
-  -- A list of transactions after c clocks, the first with a preamble of m ones and each later one with n: its answers, and the parties after it
+  -- a list after c clocks: its answers, and the parties after it
   unfoldable pub plainAnswers : ℕ → ℕ → List Transaction → ℕ → List P → List Answer
   plainAnswers m n [] c ps = []
   plainAnswers m n (t ∷ ts) c ps = plainAnswer m t c ps ∷ plainAnswers n n ts (c + clocksWith m) (plainAfter m t c ps)
