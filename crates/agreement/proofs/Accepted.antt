@@ -8,17 +8,21 @@ use borrow.Author.Tests.{ltb-false, eqb-true, not-false}
 use mathlib.Core.List.{List}
 use Rattle.verdict.specs.declared.Verdict.the-variants.{Done}
 use Rattle.verdict.specs.Refusal.{_when_, _else_}
-use Rattle.verdict.specs.File.{byteAt, records, fileVerdict, inOrder}
+use Rattle.verdict.specs.File.{byteAt, records}
 use Rattle.verdict.specs.Lists.{All}
-use Rattle.verdict.proofs.Checks.{refuse-done, done-all-pass}
+use Rattle.verdict.proofs.Checks.{file-passes}
 use Rattle.verdict.proofs.Lists.{all-tabulate}
 use Rattle.frame.specs.declared.list.Transaction.{Transaction}
-use Rattle.frame.specs.List.{listRecord, isRead, transactionAt, zeroByteAt, fieldsWrong, opWrong, faultOf, recordFault, listVerdict, transactions}
+use Rattle.frame.specs.List.{listRecord, mostTransactions, isRead, transactionAt, zeroByteAt, fieldsWrong, opWrong, faultOf, recordFault, listVerdict, transactions}
 use Rattle.agreement.specs.Agrees.{Accepted}
 
 neither : (a b : Bool) → (a || b) ≡ false → (a ≡ false) × (b ≡ false)
-neither true b e = ?
+neither true b e = (e, cc)
 neither false b e = (refl, e)
+
+first-holds : (a b : Bool) → (a || b) ≡ true → b ≡ false → a ≡ true
+first-holds true b e f = refl
+first-holds false b e f = cc
 
 neither-finds : (b d : Bool) → ((3 when b) else (7 when d)) ≡ 0 → (b ≡ false) × (d ≡ false)
 neither-finds true d e = absurd (omega arith)
@@ -30,7 +34,7 @@ accepted t zeroByte passes fits =
     let found = neither-finds (fieldsWrong t zeroByte) (opWrong t) passes in
     let fields = neither (ltb 31 (t .address)) _ (found .0) in
     record {
-      op = λ write. ?;
+      op = λ write. eqb-true (t .op) 1 (first-holds (eqb (t .op) 1) (isRead t) (not-false _ (found .1)) write);
       address = omega (arith, ltb-false 31 (t .address) (fields .0));
       register = omega (arith, ltb-false 31 (t .register) (neither (ltb 31 (t .register)) _ (fields .1) .0));
       word = fits;
@@ -38,7 +42,9 @@ accepted t zeroByte passes fits =
 
 -- the transactions of a list that the checks let through
 pub accepted-all : (list : List ℕ) (n : ℕ) → listVerdict list ≡ Done n → ((i : ℕ) → byteAt list i < 256) → All Accepted (transactions list)
-unfolding fileVerdict recordFault transactionAt
+unfolding recordFault transactionAt
 accepted-all list n passes bytes =
     all-tabulate Accepted (records listRecord list) (transactionAt list)
-    (λ k within. accepted (transactionAt list k) (zeroByteAt list k) ? ?)
+    (λ k within. accepted (transactionAt list k) (zeroByteAt list k)
+    (file-passes listRecord mostTransactions (recordFault list) list n passes k within)
+    (omega (arith, bytes (k * 6 + 4), bytes (k * 6 + 4 + 1))))

@@ -10,3 +10,5 @@ pub mod Transaction
 pub mod Plain
 pub mod Lists
 pub mod Accepted
+pub mod Decoded
+pub mod Agreement

@@ -1,13 +1,17 @@
 -- Records checked in order: how a loop over them goes, and that a refusal names the first record at fault.
-use Prim.Native.Nat.{ℕ, zero, suc, _+_, _-_, _≤_, _<_}
+use Prim.Native.Nat.{ℕ, zero, suc, _+_, _-_, _%_, _≤_, _<_}
 use mathlib.Core.Path.{_≡_, refl, ap, sym, _∙_}
+use mathlib.Core.Bool.{not}
+use mathlib.Core.List.{List}
+use lib.ListN.{length}
+use lib.Dec.{eqb, ltb}
 use native.Mathlib.Omega.{arith}
 use native.Mathlib.Numerals.{add-one}
 use native.Mathlib.Decide.{ℕ-discrete}
 use Rattle.verdict.specs.declared.Verdict.{Verdict}
 use Rattle.verdict.specs.declared.Verdict.the-variants.{Done, Refused}
-use Rattle.verdict.specs.Refusal.{refuse}
-use Rattle.verdict.specs.File.{inOrder}
+use Rattle.verdict.specs.Refusal.{wrongLength, tooMany, _when_, refuse}
+use Rattle.verdict.specs.File.{records, inOrder, fileVerdict}
 
 module _ (fault : ℕ → ℕ) (v : Verdict) where
   -- a record that passes: the rest decides
@@ -102,3 +106,12 @@ all-pass-done fault v k (suc left) h =
 pub refuse-done : (c k n : ℕ) (v : Verdict) → refuse c k v ≡ Done n → (c ≡ 0) × (v ≡ Done n)
 refuse-done zero k n v e = (refl, e)
 refuse-done (suc c) k n v e = absurd (let z : _≡_ {A = ℕ} 0 1 = cc in omega arith)
+
+-- every record of a file that the checks let through passes its own
+pub file-passes : (size most : ℕ) (fault : ℕ → ℕ) (file : List ℕ) (n : ℕ) → fileVerdict size most fault file ≡ Done n → (i : ℕ) → i < records size file → fault i ≡ 0
+unfolding fileVerdict
+file-passes size most fault file n done i within =
+    let total : ℕ = records size file in
+    let length-passes = refuse-done (wrongLength when not (eqb (length file % size) 0)) 0 n _ done in
+    let count-passes = refuse-done (tooMany when ltb most total) 0 n _ (length-passes .1) in
+    done-all-pass fault total 0 total n (count-passes .1) .1 i (omega arith) (omega arith)
