@@ -4,10 +4,10 @@ use mathlib.Core.Path.{_≡_, refl, ap, ap₂, sym, _∙_}
 use mathlib.Core.Bool.{true}
 use mathlib.Core.List.{List, [], _∷_, _++_, map, map-append}
 use native.Mathlib.Omega.{arith}
-use lib.ListN.{length, getD, take, drop}
+use lib.ListN.{length, getD, drop}
 use lib.Seq.{getD-take, getD-drop}
 use borrow.Author.Tests.{le-leb}
-use Rattle.verdict.specs.File.{byteAt, records}
+use Rattle.verdict.specs.File.{records}
 use Rattle.verdict.specs.Output.{tabulate, join}
 use Rattle.verdict.proofs.Lists.{tabulate-ext, tabulate-cons}
 use Rattle.frame.specs.declared.list.Transaction.{Transaction}

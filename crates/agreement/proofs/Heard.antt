@@ -2,9 +2,9 @@
 use Prim.Native.Nat.{ℕ, zero, suc, _+_, _-_, _^_, _≤_, _<_}
 use mathlib.Core.Path.{_≡_, refl, ap, ap₂, sym, _∙_}
 use mathlib.Core.Bool.{Bool, true, false, cond}
-use mathlib.Core.List.{List, [], _∷_, _++_, map}
+use mathlib.Core.List.{List, [], _∷_, _++_}
 use native.Mathlib.Omega.{arith}
-use lib.ListN.{length, getD, replicate, length-append, length-map, length-replicate, List·getD-append, List·getD-map}
+use lib.ListN.{length, getD, replicate, length-append, length-map, length-replicate, List·getD-append}
 use lib.Seq.{getD-append-add}
 use lib.Dec.{eqb}
 use Rattle.verdict.specs.Bits.{bits, valueOf}

@@ -1,5 +1,5 @@
 -- A list of transactions, by induction: after each transaction every party hunts with the idle clock's one, so the next finds the board as the first did.
-use Prim.Native.Nat.{ℕ, suc, _+_, _≤_}
+use Prim.Native.Nat.{ℕ, _+_, _≤_}
 use mathlib.Core.Path.{_≡_, refl, ap, ap₂, _∙_, subst}
 use mathlib.Core.Bool.{Bool}
 use mathlib.Core.List.{List, [], _∷_, _++_, map}
@@ -12,8 +12,8 @@ use Rattle.wire.specs.declared.Follower.the-variants.{Hunting}
 use Rattle.wire.specs.Wire.{Party}
 use Rattle.wire.specs.Machines.{Core, clocksWith, clocksOf, plainAnswer, plainAfter, plainAnswers, plainParties}
 use Rattle.wire.proofs.Runs.{Goes, goes-nil, goes-append, goes-as}
-use Rattle.agreement.specs.Follows.{Line, Follows, Ready, OneAnswers, Hunts}
-use Rattle.agreement.specs.Levels.{at, heard, heardAll, levelsOf, levelsOfAll}
+use Rattle.agreement.specs.Follows.{Line, Follows, Ready, Hunts}
+use Rattle.agreement.specs.Levels.{at, heardAll, levelsOf, levelsOfAll}
 use Rattle.agreement.specs.Agrees.{Accepted, stationForAll, rest, settled, AgreesAll}
 use Rattle.agreement.proofs.Heard.{heard-same, heard-all-same, levels-long, at-first, at-later}
 use Rattle.agreement.proofs.Transaction.{transaction-runs, transaction-heard}

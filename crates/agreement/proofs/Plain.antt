@@ -1,14 +1,13 @@
 -- The plain machine has no wire: it goes by neither follower nor captured word, and keeps what its effects and events keep.
-use Prim.Native.Nat.{ℕ, zero, suc, _+_, _-_}
-use mathlib.Core.Path.{_≡_, refl, ap, ap₂, sym, _∙_}
+use Prim.Native.Nat.{ℕ, _+_, _-_}
+use mathlib.Core.Path.{_≡_, refl, ap, ap₂, _∙_}
 use mathlib.Core.Bool.{Bool, true, false, cond}
 use mathlib.Core.List.{List, [], _∷_, map}
 use Rattle.verdict.specs.Lists.{All, count}
 use Rattle.verdict.proofs.Elements.{all-map, map-past, count-kept}
 use Rattle.frame.specs.declared.list.Transaction.{Transaction}
-use Rattle.frame.specs.declared.answer.Answer.{Answer}
 use Rattle.frame.specs.List.{isRead}
-use Rattle.frame.specs.Answers.{answered, sent, answerTo}
+use Rattle.frame.specs.Answers.{sent, answerTo}
 use Rattle.wire.specs.declared.Follower.{Follower}
 use Rattle.wire.specs.declared.Header.{Header}
 use Rattle.wire.specs.Wire.{Party}

@@ -1,7 +1,7 @@
 -- The table's rows on the wire: preamble and start, then the twelve bits that say the header, then turnaround and data.
 use Prim.Native.Nat.{ℕ, zero, suc, _+_, _*_, _/_, _%_, _^_, _≤_, _<_}
-use mathlib.Core.Path.{_≡_, refl, ap, ap₂, sym, _∙_}
-use mathlib.Core.Bool.{Bool, true, false, cond}
+use mathlib.Core.Path.{_≡_, refl, ap, _∙_}
+use mathlib.Core.Bool.{Bool, true, false}
 use mathlib.Core.List.{List, [], _∷_, _++_, map, map-append, append-nil}
 use native.Mathlib.Omega.{arith}
 use native.Mathlib.Nat.{mod-eq-of-lt}
@@ -16,7 +16,6 @@ use Rattle.verdict.proofs.Lists.{join-append}
 use Rattle.frame.specs.declared.list.Transaction.{Transaction}
 use Rattle.frame.specs.List.{isRead}
 use Rattle.frame.specs.Steps.{driveOne, release, startSteps, opSteps, turnaroundSteps, dataSteps, table}
-use Rattle.wire.specs.declared.Drive.{Drive}
 use Rattle.wire.specs.declared.Drive.the-variants.{Released, Driven}
 use Rattle.wire.specs.Wire.{stationDrive}
 use Rattle.wire.specs.Follower.{headerOf, headerSeen}

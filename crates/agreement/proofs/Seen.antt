@@ -1,19 +1,19 @@
 -- Bits on the wire: what the station sends is what is heard and seen, and later bits leave the header of a frame as it is.
-use Prim.Native.Nat.{ℕ, zero, suc, _+_, _*_, _-_, _/_, _%_, _^_, _≤_, _<_}
+use Prim.Native.Nat.{ℕ, zero, suc, _+_, _*_, _-_, _/_, _^_, _≤_, _<_}
 use mathlib.Core.Path.{_≡_, refl, ap, ap₂, sym, _∙_}
-use mathlib.Core.Bool.{Bool, true, false, cond, _&&_, and-true}
-use mathlib.Core.List.{List, [], _∷_, _++_, map}
+use mathlib.Core.Bool.{Bool, true, false, cond, and-true}
+use mathlib.Core.List.{List, [], _∷_, map}
 use native.Mathlib.Omega.{arith}
 use native.Mathlib.Nat.{lt-of-lt-of-le}
 use lib.ListN.{length, replicate}
-use lib.Dec.{leb, eqb}
+use lib.Dec.{eqb}
 use lib.Pow.{pow-mono, shr-shr}
 use borrow.Author.Tests.{lt-leb, ne-eqb}
 use Rattle.verdict.specs.Bits.{bit, bits, shiftIn}
 use Rattle.verdict.specs.Lists.{All}
 use Rattle.wire.specs.declared.Drive.{Drive}
 use Rattle.wire.specs.declared.Drive.the-variants.{Released, Driven}
-use Rattle.wire.specs.Wire.{levelOf, drivers, stationDrive}
+use Rattle.wire.specs.Wire.{drivers, stationDrive}
 use Rattle.wire.specs.Follower.{oneMore, headerOf, headerSeen}
 use Rattle.agreement.specs.Follows.{answering}
 use Rattle.agreement.specs.Levels.{ones}

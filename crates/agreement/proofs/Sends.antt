@@ -11,7 +11,6 @@ use Rattle.frame.specs.declared.list.Transaction.{Transaction}
 use Rattle.wire.specs.declared.Drive.{Drive}
 use Rattle.wire.specs.declared.Drive.the-variants.{Released, Driven}
 use Rattle.wire.specs.declared.Follower.the-variants.{Hunting, Inside}
-use Rattle.wire.specs.declared.Header.{Header}
 use Rattle.wire.specs.Wire.{Party, asBit}
 use Rattle.wire.specs.Follower.{follow, headerSeen}
 use Rattle.wire.specs.Machines.{Core, headerFor, quiet, beforeReads, beforeWrites}

@@ -18,7 +18,7 @@ use Rattle.wire.specs.Machines.{Core, quiet}
 use Rattle.wire.proofs.Runs.{Goes, goes-nil, goes-cons, goes-append, goes-to}
 use Rattle.wire.proofs.Quiet.{quiet-map}
 use Rattle.wire.proofs.Voices.{Alike, alike-cons, one-voice}
-use Rattle.agreement.specs.Follows.{Line, Follows, Keeps, Waits, Ready}
+use Rattle.agreement.specs.Follows.{Line, Follows, Keeps, Ready}
 use Rattle.agreement.proofs.Phase.{events-of, early}
 
 at-most-one : (d : Drive) → drivers (d ∷ Released ∷ []) ≤ 1

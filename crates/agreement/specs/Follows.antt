@@ -1,7 +1,7 @@
 -- What demand 3 asks of a party: it follows frames as document 01, "The PHY's follower", says, and answers in an own read alone.
 use Prim.Native.Nat.{ℕ, _+_, _-_, _%_, _^_, _≤_, _<_}
 use mathlib.Core.Path.{_≡_}
-use mathlib.Core.Bool.{Bool, true, false, cond}
+use mathlib.Core.Bool.{Bool, false, cond}
 use mathlib.Core.List.{List}
 use lib.Dec.{leb, eqb}
 use Rattle.verdict.specs.Bits.{bit}

@@ -1,6 +1,6 @@
 -- Document 01, "The plain machine": no wire; "transaction k reads in clock 65(k-1)+46 or stores in 65(k-1)+64, by the register rules (..) events by clock number."
 use Prim.Native.Nat.{ℕ, zero, suc, _+_, _-_}
-use mathlib.Core.Bool.{Bool, true, false, cond}
+use mathlib.Core.Bool.{Bool, cond}
 use mathlib.Core.List.{List, [], _∷_, map}
 use Rattle.frame.specs.declared.list.Transaction.{Transaction}
 use Rattle.frame.specs.declared.answer.Answer.{Answer}
