@@ -1,4 +1,5 @@
 pub mod Bits
 pub mod Checks
+pub mod Elements
 pub mod Lists
 pub mod Outputs

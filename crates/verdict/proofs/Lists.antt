@@ -1,14 +1,15 @@
 -- Lists given by their elements (`tabulate`) and lists one after the other (`join`).
-use Prim.Native.Nat.{ℕ, zero, suc, _+_, _*_, _-_, _≤_, _<_}
+use Prim.Native.Nat.{ℕ, zero, suc, _+_, _*_, _≤_, _<_}
 use mathlib.Core.Path.{_≡_, refl, ap, ap₂, sym, _∙_}
 use mathlib.Core.List.{List, [], _∷_, _++_, map, map-append, append-assoc, append-nil}
 use native.Mathlib.Omega.{arith}
 use native.Mathlib.Nat.{zero-mul, suc-mul, mul-le-mul-right}
-use native.Mathlib.Numerals.{add-one}
 use native.Mathlib.Decide.{ℕ-discrete}
 use lib.ListN.{length, getD, length-append, List·getD-append}
 use lib.Seq.{getD-at, getD-append-add, ext-getD}
+use Rattle.verdict.specs.Lists.{All}
 use Rattle.verdict.specs.Output.{tabulate, join}
+use Rattle.verdict.proofs.Elements.{all-append}
 
 module _ {A : Type 0} where
   pub length-tabulate : (n : ℕ) (f : ℕ → A) → length (tabulate n f) ≡ n
@@ -45,6 +46,12 @@ module _ {A : Type 0} where
   unfolding tabulate
   tabulate-cons zero f = refl
   tabulate-cons (suc n) f = ap (λ (xs : List A). xs ++ (f (suc n) ∷ [])) (tabulate-cons n f)
+
+  -- what holds of each value holds of the list
+  pub all-tabulate : (Q : A → Type 0) (n : ℕ) (f : ℕ → A) → ((i : ℕ) → i < n → Q (f i)) → All Q (tabulate n f)
+  unfolding tabulate
+  all-tabulate Q zero f h = tt
+  all-tabulate Q (suc n) f h = all-append Q (tabulate n f) (f n ∷ []) (all-tabulate Q n f (λ i l. h i (omega arith))) (h n (omega arith), tt)
 
   pub join-append : (xss yss : List (List A)) → join (xss ++ yss) ≡ join xss ++ join yss
   unfolding join

@@ -1,4 +1,5 @@
 pub mod Bits
+pub mod Lists
 pub mod Refusal
 pub mod File
 pub mod Output

@@ -1,6 +1,6 @@
 -- Document 01, "The plain machine": no wire; "transaction k reads in clock 65(k-1)+46 or stores in 65(k-1)+64, by the register rules (..) events by clock number."
 use Prim.Native.Nat.{ℕ, zero, suc, _+_, _-_}
-use mathlib.Core.Bool.{Bool, true, false, cond}
+use mathlib.Core.Bool.{Bool, cond}
 use mathlib.Core.List.{List, [], _∷_, map}
 use Rattle.frame.specs.declared.list.Transaction.{Transaction}
 use Rattle.frame.specs.declared.answer.Answer.{Answer}
@@ -21,11 +21,30 @@ pub record Core (P : Type 0) : Type 0 where
 abbrev pub headerFor : Transaction → Header
 headerFor t = record { op = t .op; address = t .address; register = t .register }
 
+-- A transaction with a preamble of m ones: a read acts in clock m + 14 and a write in m + 32, so these are the clocks before it; then all its clocks, with the idle one
+abbrev pub beforeReads : ℕ → ℕ
+beforeReads m = m + headerBits - 1
+
+abbrev pub beforeWrites : ℕ → ℕ
+beforeWrites m = m + frameBits - 1
+
+abbrev pub clocksWith : ℕ → ℕ
+clocksWith m = m + frameBits + 1
+
+-- the clocks of a list, whose first transaction has a preamble of m ones and each later one of n
+unfoldable pub clocksOf : ℕ → ℕ → List Transaction → ℕ
+clocksOf m n [] = 0
+clocksOf m n (t ∷ ts) = clocksWith m + clocksOf n n ts
+
 module _ {P : Type 0} (core : Core P) where
   -- n clocks in which nothing acts, after c clocks: their events alone
   unfoldable pub quiet : ℕ → ℕ → List P → List P
   quiet c zero ps = ps
   quiet c (suc n) ps = quiet (suc c) n (map (core .happens (suc c)) ps)
+
+  -- a clocks, then b more, of which the first has an effect
+  abbrev pub acting : (P → P) → ℕ → ℕ → ℕ → List P → List P
+  acting effect c a b ps = quiet (c + a) b (map effect (quiet c a ps))
 
   -- the answer to a read: of the party that answers its header, else silent
   abbrev pub readOf : Transaction → List P → Answer
@@ -33,19 +52,25 @@ module _ {P : Type 0} (core : Core P) where
   readOf t (p ∷ ps) =
       cond (core .answers (headerFor t) p) (answerTo t answered (core .word (headerFor t) p)) (readOf t ps)
 
-  -- One transaction with a preamble of m ones, after c clocks: a read acts in its clock m + 14 and a write in m + 32
+  -- one transaction with a preamble of m ones, after c clocks: its answer, and the parties after it
   module _ (m : ℕ) (t : Transaction) (c : ℕ) (ps : List P) where
-    abbrev pub beforeRead : List P
-    beforeRead = quiet c (m + headerBits - 1) ps
-
-    abbrev pub beforeWrite : List P
-    beforeWrite = quiet c (m + frameBits - 1) ps
-
     abbrev pub plainAnswer : Answer
-    plainAnswer = cond (isRead t) (readOf t beforeRead) (answerTo t sent (t .«data»))
+    plainAnswer = cond (isRead t) (readOf t (quiet c (beforeReads m) ps)) (answerTo t sent (t .«data»))
+
+    abbrev pub afterRead : List P
+    afterRead = acting (core .afterHeader (headerFor t)) c (beforeReads m) (clocksWith m - beforeReads m) ps
+
+    abbrev pub afterWrite : List P
+    afterWrite = acting (core .afterFrame (headerFor t) (t .«data»)) c (beforeWrites m) (clocksWith m - beforeWrites m) ps
 
     abbrev pub plainAfter : List P
-    plainAfter =
-        cond (isRead t)
-        (quiet (c + (m + headerBits - 1)) (frameBits - headerBits + 2) (map (core .afterHeader (headerFor t)) beforeRead))
-        (quiet (c + (m + frameBits - 1)) 2 (map (core .afterFrame (headerFor t) (t .«data»)) beforeWrite))
+    plainAfter = cond (isRead t) afterRead afterWrite
+
+  -- a list after c clocks: its answers, and the parties after it
+  unfoldable pub plainAnswers : ℕ → ℕ → List Transaction → ℕ → List P → List Answer
+  plainAnswers m n [] c ps = []
+  plainAnswers m n (t ∷ ts) c ps = plainAnswer m t c ps ∷ plainAnswers n n ts (c + clocksWith m) (plainAfter m t c ps)
+
+  unfoldable pub plainParties : ℕ → ℕ → List Transaction → ℕ → List P → List P
+  plainParties m n [] c ps = ps
+  plainParties m n (t ∷ ts) c ps = plainParties n n ts (c + clocksWith m) (plainAfter m t c ps)

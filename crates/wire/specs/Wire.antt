@@ -5,11 +5,22 @@ use mathlib.Core.List.{List, [], _∷_, map}
 use Rattle.wire.specs.declared.Drive.{Drive}
 use Rattle.wire.specs.declared.Drive.the-variants.{Released, Driven}
 
+-- what the station does in a step: "0 drive zero, 1 drive one, 2 release, 3 release and sample"
+abbrev pub stationDrive : ℕ → Drive
+stationDrive zero = Driven false
+stationDrive (suc zero) = Driven true
+stationDrive (suc (suc step)) = Released
+
 -- the level, from what all parties do in a clock
 abbrev pub levelOf : List Drive → Bool
 levelOf [] = true
 levelOf (Released ∷ drives) = levelOf drives
 levelOf (Driven level ∷ drives) = level && levelOf drives
+
+-- a level as the bit that it says
+abbrev pub asBit : Bool → ℕ
+asBit false = 0
+asBit true = 1
 
 -- how many parties drive
 abbrev pub drivers : List Drive → ℕ

@@ -1,0 +1,14 @@
+pub mod Phase
+pub mod Start
+pub mod Seen
+pub mod Reading
+pub mod Frame
+pub mod Sends
+pub mod Rows
+pub mod Heard
+pub mod Transaction
+pub mod Plain
+pub mod Lists
+pub mod Accepted
+pub mod Decoded
+pub mod Agreement

@@ -1,0 +1,114 @@
+-- A whole transaction on the wire: preamble and start, header, turnaround and data, idle, one after the other.
+use Prim.Native.Nat.{ℕ, suc, _+_, _%_, _^_, _<_}
+use mathlib.Core.Path.{_≡_, refl, ap, ap₂, sym, _∙_}
+use mathlib.Core.Bool.{Bool, true, false, cond}
+use mathlib.Core.List.{List, [], _∷_, _++_, map}
+use native.Mathlib.Omega.{arith}
+use lib.ListN.{length, replicate}
+use Rattle.verdict.specs.Lists.{All, count}
+use Rattle.verdict.proofs.Elements.{all-then, map-same, map-then, map-past, count-kept}
+use Rattle.frame.specs.declared.list.Transaction.{Transaction}
+use Rattle.wire.specs.declared.Drive.{Drive}
+use Rattle.wire.specs.declared.Drive.the-variants.{Released, Driven}
+use Rattle.wire.specs.declared.Follower.the-variants.{Hunting, Inside}
+use Rattle.wire.specs.Wire.{Party, asBit}
+use Rattle.wire.specs.Follower.{follow, headerSeen}
+use Rattle.wire.specs.Machines.{Core, headerFor, quiet, beforeReads, beforeWrites}
+use Rattle.wire.proofs.Runs.{Goes, goes-append, goes-to}
+use Rattle.wire.proofs.Quiet.{quiet-clock, quiet-append, quiet-all, quiet-count}
+use Rattle.agreement.specs.Follows.{Line, Follows, Ready, OneAnswers}
+use Rattle.agreement.specs.Agrees.{rest}
+use Rattle.agreement.proofs.Phase.{shown, hears, Fits, guise, guise-happens}
+use Rattle.agreement.proofs.Start.{starts, put-clock}
+use Rattle.agreement.proofs.Reading.{Captures, Reading, reading}
+use Rattle.agreement.proofs.Frame.{headerEffect, header-phase, frameEffect, frame-phase}
+
+module _ {P : Type 0} (core : Core P) (m : ℕ) (t : Transaction) (c : ℕ) (ps : List P) where
+  -- the parties at the header's last clock, before and after its effect, and at the frame's last clock, after its effect of a word
+  abbrev pub atHeader : List P
+  atHeader = quiet core c (beforeReads m) ps
+
+  unfoldable pub headed : List P
+  headed = map (core .afterHeader (headerFor t)) atHeader
+
+  unfoldable pub framed : ℕ → List P
+  framed word = map (core .afterFrame (headerFor t) word) (quiet core (c + beforeReads m) 18 headed)
+
+module _ {P : Type 0} {wire : Party P} {core : Core P} {line : Line P} {Good : P → Type 0} (laws : Follows wire core line Good)
+    (m : ℕ) (t : Transaction) (c : ℕ) (ps : List P) (ready : All (Ready line Good m) ps) (one : OneAnswers core ps) where
+  -- what the parties make of the header
+  pub reads : Reading core t (atHeader core m t c ps)
+  reads =
+      reading core t (atHeader core m t c ps)
+      (rw (quiet-count core (core .answers (headerFor t)) (λ c. laws .keeps-events c .answers (headerFor t)) c (beforeReads m) ps) (one (headerFor t)))
+      (all-then Good (λ p. core .word (headerFor t) p < 2 ^ 16) (atHeader core m t c ps) (laws .word-fits (headerFor t))
+      (quiet-all core Good (λ c. laws .keeps-events c .good) c (beforeReads m) ps (all-then (Ready line Good m) Good ps (λ p r. r .waits .good) ready)))
+
+  -- what the station sends: the header's bits from the third on, then turnaround and data
+  module _ (header frame : List Drive) (bits : ℕ) (header-long : length header ≡ 12) (frame-long : length frame ≡ 18)
+      (seen : shown 1 (hears false 0 2 header) ≡ bits) (fits : bits < 2 ^ 14) (says : headerSeen 14 bits ≡ headerFor t)
+      (alone : All (Fits (reads .someone)) frame) where
+    abbrev inFrame : P → P
+    inFrame = guise line (core .answers (headerFor t)) (reads .word) 14 bits
+
+    -- the levels of turnaround and data
+    abbrev pub answered : List Bool
+    answered = hears (reads .someone) (reads .word) 14 frame
+
+    -- who answers captures the word that is read
+    captured : map (headerEffect core line bits) (atHeader core m t c ps) ≡ map inFrame (headed core m t c ps)
+    unfolding headed
+    captured =
+        map-same (headerEffect core line bits) (λ p. inFrame (core .afterHeader (headerFor t) p)) (atHeader core m t c ps)
+        (all-then (Captures core t (reads .word)) _ (atHeader core m t c ps) capture (reads .captures))
+        ∙ sym (map-then inFrame (core .afterHeader (headerFor t)) _ (λ p. refl) (atHeader core m t c ps))
+      where
+        capture : (p : P) → Captures core t (reads .word) p → headerEffect core line bits p ≡ inFrame (core .afterHeader (headerFor t) p)
+        capture p word =
+            ap (λ h. line .put (Inside 14 bits) (cond (core .answers h p) (core .word h p) 0) (core .afterHeader h p)) says
+            ∙ ap (λ w. line .put (Inside 14 bits) w (core .afterHeader (headerFor t) p)) (word ∙ ap (λ b. cond b (reads .word) 0) (sym (laws .keeps-header (headerFor t) .answers (headerFor t) p)))
+
+    header-run : Goes wire header (suc (suc (c + m))) (map (line .put (Inside 2 1) 0) (quiet core c (suc (suc m)) ps)) (hears false 0 2 header)
+        (suc (c + beforeReads m)) (map inFrame (map (core .happens (suc (c + beforeReads m))) (headed core m t c ps)))
+    header-run =
+        let all : suc (suc m) + 11 ≡ beforeReads m = omega arith in
+        let before : quiet core (suc (suc (c + m))) 11 (quiet core c (suc (suc m)) ps) ≡ atHeader core m t c ps = sym (quiet-append core (suc (suc m)) 11 c (suc (suc (c + m))) ps (omega arith)) ∙ ap (λ k. quiet core c k ps) all in
+        goes-to wire (header-phase laws header 1 (suc (suc (c + m))) (c + beforeReads m) (quiet core c (suc (suc m)) ps) header-long (omega arith))
+        (ap (map (core .happens (suc (c + beforeReads m)))) (ap₂ (λ w qs. map (headerEffect core line w) qs) seen before ∙ captured)
+        ∙ map-past inFrame (core .happens (suc (c + beforeReads m))) (guise-happens laws (core .answers (headerFor t)) (reads .word) (λ c. laws .keeps-events c .answers (headerFor t)) 14 bits (suc (c + beforeReads m))) (headed core m t c ps))
+
+    voices : count (core .answers (headerFor t)) (map (core .happens (suc (c + beforeReads m))) (headed core m t c ps)) ≡ asBit (reads .someone)
+    unfolding headed
+    voices =
+        count-kept (core .answers (headerFor t)) (core .happens (suc (c + beforeReads m))) (laws .keeps-events (suc (c + beforeReads m)) .answers (headerFor t)) (headed core m t c ps)
+        ∙ count-kept (core .answers (headerFor t)) (core .afterHeader (headerFor t)) (laws .keeps-header (headerFor t) .answers (headerFor t)) (atHeader core m t c ps)
+        ∙ reads .voices
+
+    abbrev after : List P
+    after = framed core m t c ps (shown bits answered % 2 ^ 16)
+
+    frame-run : Goes wire frame (suc (c + beforeReads m)) (map inFrame (map (core .happens (suc (c + beforeReads m))) (headed core m t c ps))) answered
+        (suc (c + beforeWrites m)) (map (line .put (Hunting 0) 0) (map (core .happens (suc (c + beforeWrites m))) after))
+    unfolding framed
+    frame-run =
+        let effect : P → P = frameEffect core line (headerFor t) (shown bits answered) in
+        let headed = headed core m t c ps in
+        goes-to wire (frame-phase laws (headerFor t) (reads .someone) (reads .word) frame bits (suc (c + beforeReads m)) (c + beforeWrites m) (map (core .happens (suc (c + beforeReads m))) headed) frame-long (omega arith) fits says voices alone)
+        (ap (map (core .happens (suc (c + beforeWrites m))))
+        (ap (map effect) (quiet-clock core (c + beforeReads m) 17 headed)
+        ∙ sym (map-then (line .put (Hunting 0) 0) (core .afterFrame (headerFor t) (shown bits answered % 2 ^ 16)) effect (λ p. refl) (quiet core (c + beforeReads m) 18 headed)))
+        ∙ map-past (line .put (Hunting 0) 0) (core .happens (suc (c + beforeWrites m))) (laws .keeps-events (suc (c + beforeWrites m)) .put (Hunting 0) 0) after)
+
+    idle-run : Goes wire (Released ∷ []) (suc (c + beforeWrites m)) (map (line .put (Hunting 0) 0) (map (core .happens (suc (c + beforeWrites m))) after)) (true ∷ [])
+        (suc (suc (c + beforeWrites m))) (map (rest line) (quiet core (c + beforeWrites m) 2 after))
+    unfolding follow quiet
+    idle-run =
+        put-clock laws Released true (Hunting 0) (Hunting 1) 0 0 (suc (c + beforeWrites m)) (map (core .happens (suc (c + beforeWrites m))) after)
+        (laws .clocked .hunting-drives 0 0) refl (laws .clocked .hunting true 0)
+
+    pub sends : Goes wire ((replicate m (Driven true) ++ (Driven false ∷ Driven true ∷ [])) ++ (header ++ (frame ++ (Released ∷ [])))) c ps
+        ((replicate m true ++ (false ∷ true ∷ [])) ++ (hears false 0 2 header ++ (answered ++ (true ∷ []))))
+        (suc (suc (c + beforeWrites m))) (map (rest line) (quiet core (c + beforeWrites m) 2 (framed core m t c ps (shown bits answered % 2 ^ 16))))
+    sends =
+        goes-append wire (starts laws m c (c + m) ps refl ready)
+        (goes-append wire header-run (goes-append wire frame-run idle-run))

@@ -1,0 +1,74 @@
+-- A run over a ++ b is a run over a, then one over b from where a left off: so a run is told phase by phase.
+use Prim.Native.Nat.{ℕ, suc, _+_, _≤_}
+use mathlib.Core.Path.{_≡_, refl, ap, ap₂, sym, _∙_, subst}
+use mathlib.Core.Bool.{Bool}
+use mathlib.Core.List.{List, [], _∷_, _++_, map, map-append}
+use native.Mathlib.Omega.{arith}
+use lib.ListN.{length, length-append}
+use Rattle.verdict.specs.Lists.{All}
+use Rattle.verdict.proofs.Elements.{all-append}
+use Rattle.wire.specs.declared.Drive.{Drive}
+use Rattle.wire.specs.Wire.{Party, levelOf, drivers, drivesOf, eventsAfter, runs, driven}
+
+module _ {P : Type 0} (party : Party P) where
+  pub runs-append : (a b : List Drive) (c c′ : ℕ) (ps : List P) → c′ ≡ c + length a → runs party (a ++ b) c ps ≡ runs party b c′ (runs party a c ps)
+  unfolding runs
+  runs-append [] b c c′ ps e =
+      let here : c ≡ c′ = omega arith in
+      ap (λ k. runs party b k ps) here
+  runs-append (d ∷ a) b c c′ ps e = runs-append a b (suc c) c′ _ (omega arith)
+
+  pub driven-append : (a b : List Drive) (c c′ : ℕ) (ps : List P) → c′ ≡ c + length a → driven party (a ++ b) c ps ≡ driven party a c ps ++ driven party b c′ (runs party a c ps)
+  unfolding runs driven
+  driven-append [] b c c′ ps e =
+      let here : c ≡ c′ = omega arith in
+      ap (λ k. driven party b k ps) here
+  driven-append (d ∷ a) b c c′ ps e = ap (λ es. drivesOf party d ps ∷ es) (driven-append a b (suc c) c′ _ (omega arith))
+
+  -- a run in which nobody drives against another: its levels, and the clock and the parties that it ends with
+  pub record Goes (drives : List Drive) (c : ℕ) (ps : List P) (levels : List Bool) (c′ : ℕ) (qs : List P) : Type 0 where
+    pub after : runs party drives c ps ≡ qs
+    pub levels-are : map levelOf (driven party drives c ps) ≡ levels
+    pub alone : All (λ ds. drivers ds ≤ 1) (driven party drives c ps)
+    pub ends : c′ ≡ c + length drives
+
+  module _ {c : ℕ} {ps : List P} where
+    pub goes-nil : Goes [] c ps [] c ps
+    unfolding runs driven
+    goes-nil = record { after = refl; levels-are = refl; alone = tt; ends = omega arith }
+
+    -- one clock, then the rest
+    pub goes-cons : {d : Drive} {level : Bool} {ds : List Drive} {levels : List Bool} {c′ : ℕ} {qs rs : List P} → levelOf (drivesOf party d ps) ≡ level → drivers (drivesOf party d ps) ≤ 1 → eventsAfter party (suc c) (map (party .samples level) ps) ≡ qs → Goes ds (suc c) qs levels c′ rs → Goes (d ∷ ds) c ps (level ∷ levels) c′ rs
+    unfolding runs driven
+    goes-cons {d} {ds = ds} at alone next rest =
+        let here : eventsAfter party (suc c) (map (party .samples (levelOf (drivesOf party d ps))) ps) ≡ _ = ap (λ l. eventsAfter party (suc c) (map (party .samples l) ps)) at ∙ next in
+        record {
+          after = ap (runs party ds (suc c)) here ∙ rest .after;
+          levels-are = ap₂ (λ l ls. l ∷ ls) at (ap (λ qs. map levelOf (driven party ds (suc c) qs)) here ∙ rest .levels-are);
+          alone = (alone, subst (λ qs. All (λ es. drivers es ≤ 1) (driven party ds (suc c) qs)) (sym here) (rest .alone));
+          ends = omega (arith, rest .ends);
+        }
+
+    -- one phase, then the next
+    pub goes-append : {a b : List Drive} {la lb : List Bool} {c′ c″ : ℕ} {qs rs : List P} → Goes a c ps la c′ qs → Goes b c′ qs lb c″ rs → Goes (a ++ b) c ps (la ++ lb) c″ rs
+    goes-append {a} {b} {c′} {qs} first then =
+        let all : driven party (a ++ b) c ps ≡ driven party a c ps ++ driven party b c′ qs = driven-append a b c c′ ps (first .ends) ∙ ap (λ rs. driven party a c ps ++ driven party b c′ rs) (first .after) in
+        record {
+          after = runs-append a b c c′ ps (first .ends) ∙ ap (runs party b c′) (first .after) ∙ then .after;
+          levels-are = ap (map levelOf) all ∙ map-append levelOf (driven party a c ps) (driven party b c′ qs) ∙ ap₂ (λ la lb. la ++ lb) (first .levels-are) (then .levels-are);
+          alone = subst (All (λ es. drivers es ≤ 1)) (sym all) (all-append (λ es. drivers es ≤ 1) (driven party a c ps) (driven party b c′ qs) (first .alone) (then .alone));
+          ends = omega (arith, first .ends, then .ends, length-append a b);
+        }
+
+    -- the same run in other words
+    pub goes-as : {a b : List Drive} {la lb : List Bool} {c′ c″ : ℕ} {qs rs : List P} → Goes a c ps la c′ qs → a ≡ b → la ≡ lb → c′ ≡ c″ → qs ≡ rs → Goes b c ps lb c″ rs
+    goes-as {a} run drives levels clock parties =
+        record {
+          after = ap (λ ds. runs party ds c ps) (sym drives) ∙ run .after ∙ parties;
+          levels-are = ap (λ ds. map levelOf (driven party ds c ps)) (sym drives) ∙ run .levels-are ∙ levels;
+          alone = subst (λ ds. All (λ es. drivers es ≤ 1) (driven party ds c ps)) drives (run .alone);
+          ends = sym clock ∙ run .ends ∙ ap (λ ds. c + length ds) drives;
+        }
+
+    pub goes-to : {a : List Drive} {la : List Bool} {c′ : ℕ} {qs rs : List P} → Goes a c ps la c′ qs → qs ≡ rs → Goes a c ps la c′ rs
+    goes-to run parties = goes-as run refl refl refl parties
