@@ -1,8 +1,9 @@
 -- The places are asked in order, and the first at fault refuses.
-use mathlib.Core.Path.{_≡_, sym, _∙_}
+use mathlib.Core.Path.{_≡_, ap, sym, _∙_}
+use native.Mathlib.Omega.{arith}
 use Prim.Native.Nat.{_≤_, _-_}
 use borrow.Author.Tests.{lt-ltb, le-ltb}
-use Rattle.verdict.specs.declared.Verdict.the-variants.{Done}
+use Rattle.verdict.specs.declared.Verdict.the-variants.{Done, Refused}
 use Rattle.verdict.specs.File.{inOrder}
 use Rattle.verdict.proofs.Checks.{next, stop, finish}
 use Rattle.board.specs.Check.{placeFault, checked}
@@ -32,7 +33,7 @@ returns-2 c =
     let board = c .before .before .before .before .before .args .board in
     let k = c .before .before .before .loop .k in
     let fails : placeFault board k ≡ 12 = rw (← (c .before .place-sound .ensures), c .if2 .taken) in
-    sym (c .before .before .before .loop .inv .1 ∙ stop (placeFault board) (Done (board .count)) 32 k 11 (search needs) fails)
+    sym (c .before .before .before .loop .inv .1 ∙ stop (placeFault board) (Done (board .count)) 32 k (search needs) (λ none. omega (arith, fails, none)) ∙ ap (λ f. Refused f k) fails)
 
 add-k : tie.Need-add-k Inv-loop μ-loop
 add-k c = search needs

@@ -1,10 +1,11 @@
 -- The records are asked in order, and the first at fault refuses.
+use native.Mathlib.Omega.{arith}
 use mathlib.Core.Path.{_≡_, refl, ap, sym, _∙_}
 use Prim.Native.Nat.{_≤_, _-_}
 use native.Mathlib.Nat.{sub-zero}
 use native.Mathlib.Numerals.{add-one}
 use borrow.Author.Tests.{eq-eqb, ne-eqb, lt-ltb, le-ltb}
-use Rattle.verdict.specs.declared.Verdict.the-variants.{Done}
+use Rattle.verdict.specs.declared.Verdict.the-variants.{Done, Refused}
 use Rattle.verdict.specs.File.{inOrder, fileVerdict}
 use Rattle.verdict.proofs.Checks.{next, stop, finish}
 use Rattle.board.specs.Record.{refusalOf}
@@ -51,7 +52,7 @@ returns-3 c =
     let k = c .before .before .before .before .before .loop .k in
     let found = bad-fails (fault k) _ (sym (c .before .before .before .judge-event .ensures) ∙ c .before .enum-told2 .given .1) in
     let number = c .refusal .ensures ∙ ap refusalOf (c .before .enum-told2 .given .1) ∙ found .2 in
-    rw number (sym (c .before .before .before .before .before .loop .inv .2 ∙ stop fault _ _ k (found .0) (search needs) (found .1)))
+    rw number (sym (c .before .before .before .before .before .loop .inv .2 ∙ stop fault _ _ k (search needs) (λ none. omega (arith, found .1, none)) ∙ ap (λ f. Refused f k) (found .1)))
 
 clock-of-requires : tie.Need-clock-of-requires Inv-loop μ-loop
 clock-of-requires c κs = search needs

@@ -6,7 +6,7 @@ use native.Mathlib.Omega.{arith}
 use native.Mathlib.Nat.{sub-zero}
 use borrow.Author.Tests.{eq-eqb, ne-eqb, lt-ltb, le-ltb}
 use Rattle.verdict.specs.declared.Verdict.{Verdict}
-use Rattle.verdict.specs.declared.Verdict.the-variants.{Done}
+use Rattle.verdict.specs.declared.Verdict.the-variants.{Done, Refused}
 use Rattle.verdict.specs.File.{inOrder, fileVerdict}
 use Rattle.verdict.specs.Output.{tabulate}
 use Rattle.verdict.proofs.Checks.{next, stop, finish}
@@ -89,7 +89,7 @@ returns-3 c =
     let parse = c .before .before .enum-told2 .given .1 in
     let found = bad-fails (recordFault file (turn .k)) _ (ap recordOf (sym same) ∙ sym (c .before .before .before .before .judge .ensures) ∙ parse) in
     let number = c .before .refusal .ensures ∙ ap refusalOf parse ∙ found .2 in
-    let refuses = turn .inv .2 ∙ stop (recordFault file) _ _ (turn .k) (found .0) (search needs) (found .1) in
+    let refuses = turn .inv .2 ∙ stop (recordFault file) _ _ (turn .k) (search needs) (λ none. omega (arith, found .1, none)) ∙ ap (λ f. Refused f (turn .k)) (found .1) in
     c .refused3 .ensures ∙ rw number (sym (ap (λ (v : Verdict). loadedBy v file) refuses))
 
 mul-phys : tie.Need-mul-phys Inv-loop μ-loop
