@@ -1,0 +1,5 @@
+pub mod Outcome
+pub mod Events
+pub mod Log
+pub mod Run
+pub mod Plain

@@ -1,0 +1,74 @@
+-- Document 01, "Clock steps": "What each party drives in a clock depends on its state before that clock. (..) Then all sample it. A run takes any steps, so it may show contention."
+use Prim.Native.Nat.{ℕ, _*_}
+use mathlib.Core.List.{List, map}
+use lib.ListN.{length}
+use lib.Dec.{ltb}
+use Rattle.verdict.specs.declared.Verdict.{Verdict}
+use Rattle.verdict.specs.declared.Verdict.the-variants.{Done}
+use Rattle.verdict.specs.Refusal.{tooMany, wrongStep, _when_, refuse, andThen}
+use Rattle.verdict.specs.File.{byteAt, inOrder}
+use Rattle.verdict.specs.Output.{join, roomFor}
+use Rattle.frame.specs.Frame.{clocks, logRecord}
+use Rattle.frame.specs.List.{mostTransactions}
+use Rattle.wire.specs.declared.Drive.{Drive}
+use Rattle.wire.specs.Wire.{Party, stationDrive, eventsAfter, runs, driven}
+use Rattle.phy.specs.declared.Phy.{Phy}
+use Rattle.phy.specs.Clock.{phyParty}
+use Rattle.board.specs.declared.Board.{Board}
+use Rattle.board.specs.Check.{checked}
+use Rattle.board.specs.Events.{eventsVerdict}
+use Rattle.machine.specs.declared.Outcome.{Outcome}
+use Rattle.machine.specs.Outcome.{physOf, HandsBack}
+use Rattle.machine.specs.Events.{happens}
+use Rattle.machine.specs.Log.{clockRecord}
+
+-- the addresses of PHYs, in order
+abbrev pub addressesOf : List Phy → List ℕ
+addressesOf phys = map (λ phy. phy .address) phys
+
+-- "over 4,160 clock steps": as many as the longest list has
+abbrev pub mostSteps : ℕ
+mostSteps = mostTransactions * clocks
+
+-- 11: "clock step over 3"
+abbrev pub stepFault : List ℕ → ℕ → ℕ
+stepFault steps k = wrongStep when ltb 3 (byteAt steps k)
+
+-- the steps' checks: 2, then 11 at the first step over 3
+unfoldable pub stepsVerdict : List ℕ → Verdict
+stepsVerdict steps =
+    refuse (tooMany when ltb mostSteps (length steps)) 0
+    (inOrder (stepFault steps) 0 (length steps) (Done (length steps)))
+
+-- 12, then the steps, then the events with the number of steps as the last clock, then 10
+abbrev pub running : Board → List ℕ → List ℕ → List ℕ → Verdict
+running board steps events out =
+    andThen (checked board) (λ phys.
+    andThen (stepsVerdict steps) (λ n.
+    andThen (eventsVerdict board events n) (λ happenings.
+    roomFor out (n * logRecord))))
+
+-- the PHYs as parties of the wire, with these events
+abbrev pub partyWith : List ℕ → Party Phy
+partyWith events = phyParty (happens events)
+
+-- the PHYs before the first clock: the events of clock 0 have acted
+abbrev pub atStart : Board → List ℕ → List Phy
+atStart board events = eventsAfter (partyWith events) 0 (physOf board)
+
+abbrev pub stationDrives : List ℕ → List Drive
+stationDrives steps = map stationDrive steps
+
+-- the PHYs after the last clock
+abbrev pub physAfterRun : Board → List ℕ → List ℕ → List Phy
+physAfterRun board steps events = runs (partyWith events) (stationDrives steps) 0 (atStart board events)
+
+-- the log of a run, clock by clock
+abbrev pub logOfRun : Board → List ℕ → List ℕ → List ℕ
+logOfRun board steps events =
+    join (map (clockRecord (addressesOf (physOf board))) (driven (partyWith events) (stationDrives steps) 0 (atStart board events)))
+
+-- what `run` promises
+abbrev pub Ran : Board → List ℕ → List ℕ → List ℕ → Outcome → List ℕ → Type 0
+Ran board steps events out r out′ =
+    HandsBack (running board steps events out) (logOfRun board steps events) (physAfterRun board steps events) board out r out′

@@ -1,0 +1,10 @@
+// Two machines over one board: `run` on the wire, clock by clock, and `plain` without one (document 01, "Clock steps" and
+// the plain machine).
+use board::Board;
+use verdict::Verdict;
+
+// What a machine hands back.
+pub struct Outcome {
+    pub verdict: Verdict,
+    pub board: Board,
+}
