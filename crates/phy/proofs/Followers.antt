@@ -20,6 +20,25 @@ pub clock-follows : (level : Bool) (phy : Phy) → clock level phy .follower ≡
 unfolding clock
 clock-follows level phy = refl
 
+-- what a clock makes of a follower: a fresh hunt, a frame's first bit, ones up to 32, or one bit more of a frame whose second bit is 1
+pub follow-keeps : (P : Follower → Type 0) → P (Hunting 0) → P (Inside 1 0) → ((ones : ℕ) → P (Hunting (min (ones + 1) 32)))
+    → ((level : Bool) (seen bits : ℕ) → P (Inside seen bits) → seen < 31 → (not level && eqb seen 1) ≡ false → P (Inside (seen + 1) (oneMore bits level)))
+    → (n : ℕ) (level : Bool) (f : Follower) → P f → P (follow n level f)
+unfolding follow
+follow-keeps P hunts starts ones more n true (Hunting k) p = ones k
+follow-keeps P hunts starts ones more n false (Hunting k) p = go (leb n k)
+  where
+    go : (b : Bool) → P (cond b (Inside 1 0) (Hunting 0))
+    go true = starts
+    go false = hunts
+follow-keeps P hunts starts ones more n level (Inside seen bits) p = go (leb 31 seen) (not level && eqb seen 1) refl refl
+  where
+    go : (a b : Bool) → leb 31 seen ≡ a → (not level && eqb seen 1) ≡ b
+        → P (cond a (Hunting 0) (cond b afterWrongStart (Inside (seen + 1) (oneMore bits level))))
+    go true b e right = hunts
+    go false true e right = hunts
+    go false false e right = more level seen bits p (leb-false 31 seen e) right
+
 -- "hunting with 0 to 32 ones, or inside a frame with 1 to 31 bits"
 abbrev pub Within : Follower → Type 0
 Within (Hunting ones) = ones ≤ 32
@@ -27,22 +46,8 @@ Within (Inside seen bits) = (1 ≤ seen) × (seen ≤ 31)
 
 -- never more than 32 ones, never a 32nd bit inside
 pub follow-within : (n : ℕ) (level : Bool) (f : Follower) → Within f → Within (follow n level f)
-unfolding follow
-follow-within n true (Hunting ones) h = omega arith
-follow-within n false (Hunting ones) h = go (leb n ones)
-  where
-    go : (b : Bool) → Within (cond b (Inside 1 0) (Hunting 0))
-    go true = (omega arith, omega arith)
-    go false = omega arith
-follow-within n level (Inside seen bits) h = go (leb 31 seen) refl
-  where
-    more : (b : Bool) → seen < 31 → Within (cond b afterWrongStart (Inside (seen + 1) (oneMore bits level)))
-    more true l = omega arith
-    more false l = (omega arith, omega arith)
-
-    go : (b : Bool) → leb 31 seen ≡ b → Within (cond b (Hunting 0) (cond (not level && eqb seen 1) afterWrongStart (Inside (seen + 1) (oneMore bits level))))
-    go true e = omega arith
-    go false e = more (not level && eqb seen 1) (leb-false 31 seen e)
+follow-within =
+    follow-keeps Within (omega arith) (omega arith, omega arith) (λ ones. omega arith) (λ level seen bits h l right. (omega arith, omega arith))
 
 -- a follower after some levels
 pub follows : ℕ → List Bool → Follower → Follower

@@ -1,6 +1,6 @@
 pub mod Words
 pub mod NewBits
-pub mod Registers32
+pub mod Implemented
 pub mod Clocks
 pub mod Held
 pub mod Headers
