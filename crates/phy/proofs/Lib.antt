@@ -9,3 +9,4 @@ pub mod Lines
 pub mod Keeping
 pub mod Followers
 pub mod Examples
+pub mod Typing
