@@ -55,11 +55,11 @@ follows n [] f = f
 follows n (level ∷ levels) f = follows n levels (follow n level f)
 
 -- inside a frame past its start each level is one bit more
-goes-on : (n : ℕ) (level : Bool) (seen bits : ℕ) → 1 < seen → seen < 31 → follow n level (Inside seen bits) ≡ Inside (seen + 1) (oneMore bits level)
+pub goes-on : (n : ℕ) (level : Bool) (seen bits : ℕ) → 1 < seen → seen < 31 → follow n level (Inside seen bits) ≡ Inside (seen + 1) (oneMore bits level)
 unfolding follow
 goes-on n level seen bits past more = rw (lt-leb 31 seen more, ne-eqb seen 1 (omega arith), and-false)
 
-ends : (n : ℕ) (level : Bool) (bits : ℕ) → follow n level (Inside 31 bits) ≡ Hunting 0
+pub ends : (n : ℕ) (level : Bool) (bits : ℕ) → follow n level (Inside 31 bits) ≡ Hunting 0
 unfolding follow
 ends n level bits = refl
 

@@ -17,7 +17,7 @@ use Rattle.phy.specs.Abilities.{one}
 use Rattle.phy.specs.Fields.{registerOf, defaultOf, recordOf, withBank, withLine}
 use Rattle.phy.specs.Registers.{implements}
 use Rattle.phy.specs.Clock.{fresh, enough, answers, stores, word, afterHeader, afterFrame, actsIn, acts, atHeader, clock}
-use Rattle.phy.specs.Typed.{Words, TypedFollower, Typed, StatusFixed}
+use Rattle.phy.specs.Typed.{Words, TypedFollower, Typed, StatusFixed, Steady}
 use Rattle.phy.proofs.Clocks.{clock-by}
 use Rattle.phy.proofs.Followers.{follow-keeps}
 use Rattle.phy.proofs.Effects.{Effect, nothing, afterHeader-effect, afterFrame-effect}
@@ -35,7 +35,7 @@ enough-most phy = go (one 6 (registerOf 1 phy))
 pub enough-fixed : (phy : Phy) → StatusFixed phy → enough phy ≡ cond (one 6 (defaultOf 1 phy)) 1 32
 unfolding enough
 enough-fixed phy fixed =
-    ap (λ (b : ℕ). cond (eqb b 1) 1 32) (fixed 6 (omega arith) (omega arith) (omega arith) (omega arith))
+    ap (λ (b : ℕ). cond (eqb b 1) 1 32) (fixed 6 (omega arith) (omega arith) (omega arith) (omega arith) (omega arith))
 
 typed-as : (registers : List ℕ) (link : Bool) (follower : Follower) (captured : ℕ) (q : Phy) → Typed q
     → Words registers → TypedFollower follower → captured < 2 ^ 16 → Typed (withLine follower captured (withBank registers link q))
@@ -85,6 +85,22 @@ module _ {f : Phy → Phy} (effect : Effect f) (phy : Phy) where
       subst Typed (sym (effect .bank phy))
       (typed-as (f phy .registers) (f phy .link) (phy .follower) (phy .captured) phy t
       (effect .typed phy (t .defaults) (t .registers)) (t .follower) (t .captured))
+
+  -- what it rests on it keeps
+  pub keeps-steady : Steady phy → Steady (f phy)
+  keeps-steady s =
+      record {
+        defaults = subst Words (sym (ap (λ p. p .defaults) (effect .bank phy))) (s .defaults);
+        registers = effect .typed phy (s .defaults) (s .registers);
+        fixed = effect .fixed phy (s .fixed);
+      }
+
+-- a follower and a captured word of any kind leave that too
+pub line-steady : (f : Follower) (w : ℕ) (phy : Phy) → Steady phy → Steady (withLine f w phy)
+line-steady f w phy s = record { defaults = s .defaults; registers = s .registers; fixed = s .fixed }
+
+pub word-small : (header : Header) (phy : Phy) → Steady phy → word header phy < 2 ^ 16
+word-small header phy s = s .registers .small (header .register)
 
 -- a clock is the follower's move, a captured word, and an effect
 pub record Clocked (level : Bool) (phy : Phy) : Type 0 where
