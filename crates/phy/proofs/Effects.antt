@@ -4,23 +4,22 @@ use mathlib.Core.Path.{_≡_, refl, sym, ap, _∙_}
 use mathlib.Core.Bool.{Bool, true, false, not, _&&_, _||_, cond}
 use mathlib.Core.List.{List, [], _∷_}
 use native.Mathlib.Omega.{arith}
-use native.Mathlib.Decide.{ℕ-discrete}
 use lib.Dec.{eqb}
-use lib.ListN.{length, getD, set, length-set}
-use lib.Seq.{getD-set-same, getD-set-other, set-out}
+use lib.ListN.{getD, set, length-set}
+use lib.Seq.{getD-set-other}
 use borrow.Author.Tests.{eqb-false}
 use Rattle.verdict.specs.Bits.{bit}
 use Rattle.wire.specs.declared.Follower.{Follower}
 use Rattle.wire.specs.declared.Header.{Header}
 use Rattle.phy.specs.declared.Phy.{Phy}
 use Rattle.phy.specs.Abilities.{one}
-use Rattle.phy.specs.Words.{wordBits, wordOf, setBit, clearBit}
+use Rattle.phy.specs.Words.{setBit, clearBit}
 use Rattle.phy.specs.Fields.{registerOf, defaultOf, maskOf, withBank, withLine}
 use Rattle.phy.specs.Control.{reset, newControl, newStatus, newBit12, writeControl}
 use Rattle.phy.specs.Registers.{implements, inReset, masked, writeOrdinary, heldAfter, readStatus, afterRead, writeBy, afterWrite}
 use Rattle.phy.specs.Events.{linkUp, linkDown, remoteFault, jabber, negotiationComplete, restartDone, resetDone, completes, happening, event}
-use Rattle.phy.specs.Clock.{answers, stores, takes, afterHeader, afterFrame}
-use Rattle.phy.specs.Typed.{Words, Typed, StatusFixed}
+use Rattle.phy.specs.Clock.{answers, stores, afterHeader, afterFrame}
+use Rattle.phy.specs.Typed.{Words, StatusFixed}
 use Rattle.phy.proofs.Words.{set-other, clear-other, set-lt, clear-lt, picked-lt}
 use Rattle.phy.proofs.NewBits.{control-parts}
 use Rattle.phy.proofs.Held.{held-others}
@@ -90,9 +89,9 @@ on-status change link kept small =
     record {
       blind = λ f w phy. refl;
       bank = λ phy. refl;
-      fixed = λ phy h i n5 n4 n2 n1.
+      fixed = λ phy h i below n5 n4 n2 n1.
           stored (λ x. bit i x ≡ bit i (defaultOf 1 phy)) (phy .registers) 1 (change (phy .link) (registerOf 1 phy)) 1
-          (kept (phy .link) (registerOf 1 phy) i n5 n4 n2 n1 ∙ h i n5 n4 n2 n1) (h i n5 n4 n2 n1);
+          (kept (phy .link) (registerOf 1 phy) i n5 n4 n2 n1 ∙ h i below n5 n4 n2 n1) (h i below n5 n4 n2 n1);
       typed = λ phy d r. words-set (phy .registers) 1 (change (phy .link) (registerOf 1 phy)) r (small (phy .link) (registerOf 1 phy) (r .small 1));
     }
 
@@ -104,7 +103,7 @@ on-other r n1 change same small =
     record {
       blind = λ f w phy. ap (λ v. withBank (set (phy .registers) r v) (phy .link) (withLine f w phy)) (same f w phy);
       bank = λ phy. refl;
-      fixed = λ phy h i n5 n4 n2 n. rw (getD-set-other (phy .registers) r 1 (change phy) 0 n1) (h i n5 n4 n2 n);
+      fixed = λ phy h i below n5 n4 n2 n. rw (getD-set-other (phy .registers) r 1 (change phy) 0 n1) (h i below n5 n4 n2 n);
       typed = λ phy d w. words-set (phy .registers) r (change phy) w (small phy w);
     }
 
@@ -130,7 +129,7 @@ reset-effect =
     record {
       blind = λ f w phy. refl;
       bank = λ phy. refl;
-      fixed = λ phy h i n5 n4 n2 n1. ap (bit i) (getD-set-other (phy .defaults) 0 1 (setBit 15 (defaultOf 0 phy)) 0 (omega arith));
+      fixed = λ phy h i below n5 n4 n2 n1. ap (bit i) (getD-set-other (phy .defaults) 0 1 (setBit 15 (defaultOf 0 phy)) 0 (omega arith));
       typed = λ phy d r. words-set (phy .defaults) 0 (setBit 15 (defaultOf 0 phy)) d (set-lt 15 16 (defaultOf 0 phy) (omega arith) (d .small 0));
     }
 
@@ -160,10 +159,10 @@ writeControl-effect word =
     record {
       blind = λ f w phy. refl;
       bank = λ phy. refl;
-      fixed = λ phy h i n5 n4 n2 n1.
+      fixed = λ phy h i below n5 n4 n2 n1.
           stored (λ x. bit i x ≡ bit i (defaultOf 1 phy)) (set (phy .registers) 0 (controlAfter word phy)) 1 (newStatus (registerOf 1 phy) word) 1
-          (newStatus-kept word (registerOf 1 phy) i n5 n4 n2 n1 ∙ h i n5 n4 n2 n1)
-          (rw (getD-set-other (phy .registers) 0 1 (controlAfter word phy) 0 (omega arith)) (h i n5 n4 n2 n1));
+          (newStatus-kept word (registerOf 1 phy) i n5 n4 n2 n1 ∙ h i below n5 n4 n2 n1)
+          (rw (getD-set-other (phy .registers) 0 1 (controlAfter word phy) 0 (omega arith)) (h i below n5 n4 n2 n1));
       typed = λ phy d r.
           words-set (set (phy .registers) 0 (controlAfter word phy)) 1 (newStatus (registerOf 1 phy) word)
           (words-set (phy .registers) 0 (controlAfter word phy) r

@@ -1,24 +1,42 @@
 -- The follower goes by the levels alone: whose frame it is makes no difference to where it stands.
-use Prim.Native.Nat.{ℕ, zero, suc, _+_, _-_, _*_, _/_, _%_, _^_, _≤_, _<_, min}
-use mathlib.Core.Path.{_≡_, refl, sym, ap, ap₂, _∙_}
+use Prim.Native.Nat.{ℕ, _+_, _/_, _%_, _^_, _≤_, _<_, min}
+use mathlib.Core.Path.{_≡_, refl, ap, ap₂, _∙_}
 use mathlib.Core.Bool.{Bool, true, false, not, _&&_, cond, and-false}
 use mathlib.Core.List.{List, [], _∷_}
 use native.Mathlib.Omega.{arith}
 use native.Mathlib.Decide.{ℕ-discrete}
 use lib.Dec.{leb, eqb}
 use lib.ListN.{length}
-use borrow.Author.Tests.{leb-false, le-leb, lt-leb, eq-eqb, ne-eqb}
+use borrow.Author.Tests.{leb-false, lt-leb, ne-eqb}
 use Rattle.wire.specs.declared.Follower.{Follower}
 use Rattle.wire.specs.declared.Follower.the-variants.{Hunting, Inside}
-use Rattle.wire.specs.Follower.{hunt, oneMore, inside, follow, headerOf, afterWrongStart}
+use Rattle.wire.specs.Follower.{oneMore, follow, headerOf, afterWrongStart}
 use Rattle.phy.specs.declared.Phy.{Phy}
-use Rattle.phy.specs.Fields.{withLine}
 use Rattle.phy.specs.Clock.{enough, atFrame, acts, clock}
 
 -- the PHY's follower is the wire's
 pub clock-follows : (level : Bool) (phy : Phy) → clock level phy .follower ≡ follow (enough phy) level (phy .follower)
 unfolding clock
 clock-follows level phy = refl
+
+-- what a clock makes of a follower: a fresh hunt, a frame's first bit, ones up to 32, or one bit more of a frame whose second bit is 1
+pub follow-keeps : (P : Follower → Type 0) → P (Hunting 0) → P (Inside 1 0) → ((ones : ℕ) → P (Hunting (min (ones + 1) 32)))
+    → ((level : Bool) (seen bits : ℕ) → P (Inside seen bits) → seen < 31 → (not level && eqb seen 1) ≡ false → P (Inside (seen + 1) (oneMore bits level)))
+    → (n : ℕ) (level : Bool) (f : Follower) → P f → P (follow n level f)
+unfolding follow
+follow-keeps P hunts starts ones more n true (Hunting k) p = ones k
+follow-keeps P hunts starts ones more n false (Hunting k) p = go (leb n k)
+  where
+    go : (b : Bool) → P (cond b (Inside 1 0) (Hunting 0))
+    go true = starts
+    go false = hunts
+follow-keeps P hunts starts ones more n level (Inside seen bits) p = go (leb 31 seen) (not level && eqb seen 1) refl refl
+  where
+    go : (a b : Bool) → leb 31 seen ≡ a → (not level && eqb seen 1) ≡ b
+        → P (cond a (Hunting 0) (cond b afterWrongStart (Inside (seen + 1) (oneMore bits level))))
+    go true b e right = hunts
+    go false true e right = hunts
+    go false false e right = more level seen bits p (leb-false 31 seen e) right
 
 -- "hunting with 0 to 32 ones, or inside a frame with 1 to 31 bits"
 abbrev pub Within : Follower → Type 0
@@ -27,22 +45,8 @@ Within (Inside seen bits) = (1 ≤ seen) × (seen ≤ 31)
 
 -- never more than 32 ones, never a 32nd bit inside
 pub follow-within : (n : ℕ) (level : Bool) (f : Follower) → Within f → Within (follow n level f)
-unfolding follow
-follow-within n true (Hunting ones) h = omega arith
-follow-within n false (Hunting ones) h = go (leb n ones)
-  where
-    go : (b : Bool) → Within (cond b (Inside 1 0) (Hunting 0))
-    go true = (omega arith, omega arith)
-    go false = omega arith
-follow-within n level (Inside seen bits) h = go (leb 31 seen) refl
-  where
-    more : (b : Bool) → seen < 31 → Within (cond b afterWrongStart (Inside (seen + 1) (oneMore bits level)))
-    more true l = omega arith
-    more false l = (omega arith, omega arith)
-
-    go : (b : Bool) → leb 31 seen ≡ b → Within (cond b (Hunting 0) (cond (not level && eqb seen 1) afterWrongStart (Inside (seen + 1) (oneMore bits level))))
-    go true e = omega arith
-    go false e = more (not level && eqb seen 1) (leb-false 31 seen e)
+follow-within =
+    follow-keeps Within (omega arith) (omega arith, omega arith) (λ ones. omega arith) (λ level seen bits h l right. (omega arith, omega arith))
 
 -- a follower after some levels
 pub follows : ℕ → List Bool → Follower → Follower
@@ -50,11 +54,11 @@ follows n [] f = f
 follows n (level ∷ levels) f = follows n levels (follow n level f)
 
 -- inside a frame past its start each level is one bit more
-goes-on : (n : ℕ) (level : Bool) (seen bits : ℕ) → 1 < seen → seen < 31 → follow n level (Inside seen bits) ≡ Inside (seen + 1) (oneMore bits level)
+pub goes-on : (n : ℕ) (level : Bool) (seen bits : ℕ) → 1 < seen → seen < 31 → follow n level (Inside seen bits) ≡ Inside (seen + 1) (oneMore bits level)
 unfolding follow
 goes-on n level seen bits past more = rw (lt-leb 31 seen more, ne-eqb seen 1 (omega arith), and-false)
 
-ends : (n : ℕ) (level : Bool) (bits : ℕ) → follow n level (Inside 31 bits) ≡ Hunting 0
+pub ends : (n : ℕ) (level : Bool) (bits : ℕ) → follow n level (Inside 31 bits) ≡ Hunting 0
 unfolding follow
 ends n level bits = refl
 

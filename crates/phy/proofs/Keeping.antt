@@ -1,24 +1,23 @@
 -- What every effect and every clock keeps of a PHY: its record, `enough`, whom it answers, its types.
-use Prim.Native.Nat.{ℕ, _+_, _*_, _%_, _^_, _≤_, _<_, min}
+use Prim.Native.Nat.{ℕ, _+_, _%_, _^_, _≤_, _<_}
 use mathlib.Core.Path.{_≡_, refl, sym, ap, subst, _∙_}
 use mathlib.Core.Bool.{Bool, true, false, not, _&&_, cond}
 use mathlib.Core.List.{List}
-use lib.ListN.{getD}
 use native.Mathlib.Omega.{arith}
-use lib.Dec.{leb, eqb}
-use borrow.Author.Tests.{leb-false}
-use Rattle.verdict.specs.Bits.{bit}
+use lib.Dec.{eqb}
 use Rattle.wire.specs.declared.Follower.{Follower}
 use Rattle.wire.specs.declared.Follower.the-variants.{Hunting, Inside}
 use Rattle.wire.specs.declared.Header.{Header}
-use Rattle.wire.specs.Follower.{hunt, oneMore, inside, follow, headerSeen, afterWrongStart}
+use Rattle.wire.specs.Follower.{oneMore, follow, headerSeen}
 use Rattle.phy.specs.declared.Phy.{Phy}
 use Rattle.phy.specs.Abilities.{one}
-use Rattle.phy.specs.Fields.{registerOf, defaultOf, withBank, withLine}
+use Rattle.phy.specs.Fields.{registerOf, defaultOf, recordOf, withBank, withLine}
 use Rattle.phy.specs.Registers.{implements}
-use Rattle.phy.specs.Clock.{fresh, enough, answers, stores, word, afterHeader, afterFrame, actsIn, acts, atHeader, clock}
-use Rattle.phy.specs.Typed.{Words, TypedFollower, Typed, StatusFixed}
-use Rattle.phy.proofs.Effects.{Effect, afterHeader-effect, afterFrame-effect}
+use Rattle.phy.specs.Clock.{fresh, enough, answers, stores, word, afterHeader, afterFrame, acts, atHeader, clock}
+use Rattle.phy.specs.Typed.{Words, TypedFollower, Typed, StatusFixed, Steady}
+use Rattle.phy.proofs.Clocks.{clock-by}
+use Rattle.phy.proofs.Followers.{follow-keeps}
+use Rattle.phy.proofs.Effects.{Effect, nothing, afterHeader-effect, afterFrame-effect}
 
 -- a PHY accepts at most 32 ones as enough, and at least 1
 pub enough-most : (phy : Phy) → enough phy ≤ 32
@@ -33,7 +32,20 @@ enough-most phy = go (one 6 (registerOf 1 phy))
 pub enough-fixed : (phy : Phy) → StatusFixed phy → enough phy ≡ cond (one 6 (defaultOf 1 phy)) 1 32
 unfolding enough
 enough-fixed phy fixed =
-    ap (λ (b : ℕ). cond (eqb b 1) 1 32) (fixed 6 (omega arith) (omega arith) (omega arith) (omega arith))
+    ap (λ (b : ℕ). cond (eqb b 1) 1 32) (fixed 6 (omega arith) (omega arith) (omega arith) (omega arith) (omega arith))
+
+typed-as : (registers : List ℕ) (link : Bool) (follower : Follower) (captured : ℕ) (q : Phy) → Typed q
+    → Words registers → TypedFollower follower → captured < 2 ^ 16 → Typed (withLine follower captured (withBank registers link q))
+typed-as registers link follower captured q t words tf small =
+    record {
+      address = t .address;
+      implemented = t .implemented;
+      defaults = t .defaults;
+      masks = t .masks;
+      registers = words;
+      follower = tf;
+      captured = small;
+    }
 
 -- Of an effect
 module _ {f : Phy → Phy} (effect : Effect f) (phy : Phy) where
@@ -44,20 +56,11 @@ module _ {f : Phy → Phy} (effect : Effect f) (phy : Phy) where
   pub keeps-captured : f phy .captured ≡ phy .captured
   keeps-captured = ap (λ p. p .captured) (effect .bank phy)
 
-  -- nor the address, the implemented mask, the defaults, the write masks
-  pub keeps-address : f phy .address ≡ phy .address
-  keeps-address = ap (λ p. p .address) (effect .bank phy)
+  -- nor address, implemented mask, defaults, write masks
+  pub keeps-record : recordOf (f phy) ≡ recordOf phy
+  keeps-record = ap recordOf (effect .bank phy)
 
-  pub keeps-implemented : f phy .implemented ≡ phy .implemented
-  keeps-implemented = ap (λ p. p .implemented) (effect .bank phy)
-
-  pub keeps-defaults : f phy .defaults ≡ phy .defaults
-  keeps-defaults = ap (λ p. p .defaults) (effect .bank phy)
-
-  pub keeps-masks : f phy .masks ≡ phy .masks
-  keeps-masks = ap (λ p. p .masks) (effect .bank phy)
-
-  -- so it answers and stores as before
+  -- so the PHY answers and stores as before
   pub keeps-answers : (header : Header) → answers header (f phy) ≡ answers header phy
   unfolding answers implements
   keeps-answers header = ap (answers header) (effect .bank phy)
@@ -70,87 +73,125 @@ module _ {f : Phy → Phy} (effect : Effect f) (phy : Phy) where
   pub keeps-enough : StatusFixed phy → enough (f phy) ≡ enough phy
   keeps-enough fixed =
       enough-fixed (f phy) (effect .fixed phy fixed)
-      ∙ ap (λ (l : List ℕ). cond (one 6 (getD l 1 0)) 1 32) keeps-defaults
+      ∙ ap (λ p. cond (one 6 (defaultOf 1 p)) 1 32) (effect .bank phy)
       ∙ sym (enough-fixed phy fixed)
 
   -- and every field stays within its type
   pub keeps-typed : Typed phy → Typed (f phy)
   keeps-typed t =
       subst Typed (sym (effect .bank phy))
+      (typed-as (f phy .registers) (f phy .link) (phy .follower) (phy .captured) phy t
+      (effect .typed phy (t .defaults) (t .registers)) (t .follower) (t .captured))
+
+  -- what it rests on it keeps
+  pub keeps-steady : Steady phy → Steady (f phy)
+  keeps-steady s =
       record {
-        address = t .address;
-        implemented = t .implemented;
-        defaults = t .defaults;
-        masks = t .masks;
-        registers = effect .typed phy (t .defaults) (t .registers);
-        follower = t .follower;
-        captured = t .captured;
+        defaults = subst Words (sym (ap (λ p. p .defaults) (effect .bank phy))) (s .defaults);
+        registers = effect .typed phy (s .defaults) (s .registers);
+        fixed = effect .fixed phy (s .fixed);
       }
 
+-- a follower and a captured word of any kind leave that too
+pub line-steady : (f : Follower) (w : ℕ) (phy : Phy) → Steady phy → Steady (withLine f w phy)
+line-steady f w phy s = record { defaults = s .defaults; registers = s .registers; fixed = s .fixed }
+
+pub word-small : (header : Header) (phy : Phy) → Steady phy → word header phy < 2 ^ 16
+word-small header phy s = s .registers .small (header .register)
+
+-- a clock is the follower's move, a captured word, and an effect
+pub record Clocked (level : Bool) (phy : Phy) : Type 0 where
+  pub does : Phy → Phy
+  pub effect : Effect does
+  pub captured : ℕ
+  pub small : Typed phy → captured < 2 ^ 16
+  pub is : clock level phy ≡ withLine (follow (enough phy) level (phy .follower)) captured (does phy)
+
+pub clocked : (level : Bool) (phy : Phy) → Clocked level phy
+unfolding clock acts atHeader
+clocked level phy = go (phy .follower) refl
+  where
+    next : Follower
+    next = follow (enough phy) level (phy .follower)
+
+    go : (f : Follower) → phy .follower ≡ f → Clocked level phy
+    go (Hunting ones) now =
+        record { does = λ p. p; effect = nothing; captured = phy .captured; small = λ t. t .captured; is = clock-by level phy (Hunting ones) now }
+    go (Inside seen bits) now = by (eqb seen 13) (eqb seen 31) (answers header phy) refl refl refl
+      where
+        after : ℕ
+        after = oneMore bits level
+
+        header : Header
+        header = headerSeen 14 after
+
+        by : (a b own : Bool) → eqb seen 13 ≡ a → eqb seen 31 ≡ b → answers header phy ≡ own → Clocked level phy
+        by true b true e13 e31 own =
+            record {
+              does = afterHeader header;
+              effect = afterHeader-effect header;
+              captured = word header phy;
+              small = λ t. t .registers .small (header .register);
+              is = clock-by level phy (Inside seen bits) now ∙ rw (e13, own);
+            }
+        by true b false e13 e31 other =
+            record {
+              does = λ p. p;
+              effect = nothing;
+              captured = phy .captured;
+              small = λ t. t .captured;
+              is = clock-by level phy (Inside seen bits) now ∙ rw (e13, other);
+            }
+        by false true own e13 e31 o =
+            record {
+              does = afterFrame (headerSeen 32 after) (after % 2 ^ 16);
+              effect = afterFrame-effect (headerSeen 32 after) (after % 2 ^ 16);
+              captured = 0;
+              small = λ t. omega arith;
+              is = clock-by level phy (Inside seen bits) now ∙ rw (e13, e31);
+            }
+        by false false own e13 e31 o =
+            record {
+              does = λ p. p;
+              effect = nothing;
+              captured = phy .captured;
+              small = λ t. t .captured;
+              is = clock-by level phy (Inside seen bits) now ∙ rw (e13, e31);
+            }
+
 -- Of a clock
-follow-typed : (n : ℕ) (level : Bool) (f : Follower) → TypedFollower f → TypedFollower (follow n level f)
-unfolding follow
-follow-typed n true (Hunting ones) t = omega arith
-follow-typed n false (Hunting ones) t = go (leb n ones)
-  where
-    go : (b : Bool) → TypedFollower (cond b (Inside 1 0) (Hunting 0))
-    go true = (omega arith, omega arith)
-    go false = omega arith
-follow-typed n level (Inside seen bits) t = go (leb 31 seen) refl
-  where
-    shifted : (l : Bool) → oneMore bits l < 2 ^ 32
-    shifted true = omega arith
-    shifted false = omega arith
+module _ (level : Bool) (phy : Phy) where
+  of : Clocked level phy
+  of = clocked level phy
 
-    more : (b : Bool) → seen < 31 → TypedFollower (cond b afterWrongStart (Inside (seen + 1) (oneMore bits level)))
-    more true h = omega arith
-    more false h = (omega arith, shifted level)
+  pub clock-record : recordOf (clock level phy) ≡ recordOf phy
+  clock-record = ap recordOf (of .is) ∙ keeps-record (of .effect) phy
 
-    go : (b : Bool) → leb 31 seen ≡ b → TypedFollower (cond b (Hunting 0) (cond (not level && eqb seen 1) afterWrongStart (Inside (seen + 1) (oneMore bits level))))
-    go true e = omega arith
-    go false e = more (not level && eqb seen 1) (leb-false 31 seen e)
+  pub clock-answers : (header : Header) → answers header (clock level phy) ≡ answers header phy
+  unfolding answers implements
+  clock-answers header = ap (answers header) (of .is) ∙ keeps-answers (of .effect) phy header
 
-with-line-typed : (f : Follower) (w : ℕ) (phy : Phy) → Typed phy → TypedFollower f → w < 2 ^ 16 → Typed (withLine f w phy)
-with-line-typed f w phy t tf tw =
-    record {
-      address = t .address;
-      implemented = t .implemented;
-      defaults = t .defaults;
-      masks = t .masks;
-      registers = t .registers;
-      follower = tf;
-      captured = tw;
-    }
+  pub clock-enough : StatusFixed phy → enough (clock level phy) ≡ enough phy
+  unfolding enough
+  clock-enough fixed = ap enough (of .is) ∙ keeps-enough (of .effect) phy fixed
 
-acts-typed : (seen bits : ℕ) (phy : Phy) → Typed phy → Typed (acts seen bits phy)
-unfolding acts atHeader
-acts-typed seen bits phy t = go (eqb seen 13) (eqb seen 31)
-  where
-    header : (b : Bool) → Typed (cond b (withLine (afterHeader (headerSeen 14 bits) phy .follower) (word (headerSeen 14 bits) phy) (afterHeader (headerSeen 14 bits) phy)) phy)
-    header true =
-        let after = keeps-typed (afterHeader-effect (headerSeen 14 bits)) phy t in
-        with-line-typed _ _ _ after (after .follower) (t .registers .small _)
-    header false = t
+  pub clock-fixed : StatusFixed phy → StatusFixed (clock level phy)
+  clock-fixed fixed = subst StatusFixed (sym (of .is)) (of .effect .fixed phy fixed)
 
-    frame : Typed (withLine (afterFrame (headerSeen 32 bits) (bits % 2 ^ 16) phy .follower) 0 (afterFrame (headerSeen 32 bits) (bits % 2 ^ 16) phy))
-    frame =
-        let after = keeps-typed (afterFrame-effect (headerSeen 32 bits) (bits % 2 ^ 16)) phy t in
-        with-line-typed _ _ _ after (after .follower) (omega arith)
+  pub clock-typed : Typed phy → Typed (clock level phy)
+  clock-typed t =
+      let after = keeps-typed (of .effect) phy t in
+      subst Typed (sym (of .is))
+      (typed-as (of .does phy .registers) (of .does phy .link) _ (of .captured) (of .does phy) after (after .registers)
+      (follow-keeps TypedFollower (omega arith) (omega arith, omega arith) (λ ones. omega arith) more (enough phy) level (phy .follower) (t .follower))
+      (of .small t))
+    where
+      shifted : (bits : ℕ) (l : Bool) → oneMore bits l < 2 ^ 32
+      shifted bits true = omega arith
+      shifted bits false = omega arith
 
-    go : (a b : Bool) → Typed (cond a (atHeader (headerSeen 14 bits) phy) (cond b (withLine (afterFrame (headerSeen 32 bits) (bits % 2 ^ 16) phy .follower) 0 (afterFrame (headerSeen 32 bits) (bits % 2 ^ 16) phy)) phy))
-    go true b = header (answers (headerSeen 14 bits) phy)
-    go false true = frame
-    go false false = t
-
-pub clock-typed : (level : Bool) (phy : Phy) → Typed phy → Typed (clock level phy)
-unfolding clock
-clock-typed level phy t =
-    let after = acted (phy .follower) in
-    with-line-typed _ _ _ after (follow-typed (enough phy) level (phy .follower) (t .follower)) (after .captured)
-  where
-    acted : (f : Follower) → Typed (actsIn f level phy)
-    acted (Hunting ones) = t
-    acted (Inside seen bits) = acts-typed seen (oneMore bits level) phy t
+      more : (l : Bool) (seen bits : ℕ) → TypedFollower (Inside seen bits) → seen < 31 → (not l && eqb seen 1) ≡ false → TypedFollower (Inside (seen + 1) (oneMore bits l))
+      more l seen bits p h right = (omega arith, shifted bits l)
 
 -- A fresh PHY
 pub fresh-typed : (address implemented : ℕ) (defaults masks : List ℕ) → address < 2 ^ 8 → implemented < 2 ^ 32

@@ -5,12 +5,15 @@ pub mod Effects
 pub mod Every
 pub mod Examples
 pub mod Followers
+pub mod Frames
 pub mod Fresh
 pub mod Headers
 pub mod Held
+pub mod Implemented
 pub mod Keeping
 pub mod Lines
 pub mod NewBits
 pub mod Outside
 pub mod Registers32
+pub mod Typing
 pub mod Words

@@ -16,6 +16,10 @@ defaultOf r phy = getD (phy .defaults) r 0
 abbrev pub maskOf : ℕ → Phy → ℕ
 maskOf r phy = getD (phy .masks) r 0
 
+-- what the board file says of a PHY: address, implemented mask, defaults, write masks
+abbrev pub recordOf : Phy → ℕ × ℕ × List ℕ × List ℕ
+recordOf phy = (phy .address, phy .implemented, phy .defaults, phy .masks)
+
 -- what registers and link leave as it was: the record, the follower, the captured word
 abbrev pub withBank : List ℕ → Bool → Phy → Phy
 withBank registers link phy =

@@ -31,4 +31,10 @@ pub record Typed (phy : Phy) : Type 0 where
 -- "bits outside masks stand at default (..) as do all of register 1 but bits 5, 4, 2, 1"
 abbrev pub StatusFixed : Phy → Type 0
 StatusFixed phy =
-    (i : ℕ) → (i ≡ 5 → ⊥) → (i ≡ 4 → ⊥) → (i ≡ 2 → ⊥) → (i ≡ 1 → ⊥) → bit i (registerOf 1 phy) ≡ bit i (defaultOf 1 phy)
+    (i : ℕ) → i < 16 → (i ≡ 5 → ⊥) → (i ≡ 4 → ⊥) → (i ≡ 2 → ⊥) → (i ≡ 1 → ⊥) → bit i (registerOf 1 phy) ≡ bit i (defaultOf 1 phy)
+
+-- what reads, writes and events rest on, whatever the follower does: the words are words, and register 1 is fixed
+pub record Steady (phy : Phy) : Type 0 where
+  pub defaults : Words (phy .defaults)
+  pub registers : Words (phy .registers)
+  pub fixed : StatusFixed phy

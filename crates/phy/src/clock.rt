@@ -1,12 +1,11 @@
 // A PHY in a clock: what it drives, and what it is after it sampled the level.
 ghost use mathlib.Core.Path.{_≡_};
-ghost use Prim.Native.Nat.{_/_, _%_, _^_, _≤_};
-ghost use Rattle.wire.specs.Follower.{headerOf, headerSeen};
+ghost use Prim.Native.Nat.{_≤_};
+ghost use Rattle.wire.specs.Follower.{oneMore};
 ghost use Rattle.phy.specs.Fields.{withFollower, withCaptured};
-ghost use Rattle.phy.specs.Clock.{fresh, enough, takes, answers, stores, afterHeader, afterFrame, drives, answerBit, atHeader, atFrame, acts, clock};
+ghost use Rattle.phy.specs.Clock.{fresh, enough, takes, answers, stores, afterHeader, afterFrame, answerBit, drives, atHeader, acts, clock};
 use crate::Phy;
 use crate::status::Status;
-use frame::Frame;
 use frame::Transaction;
 use wire::Drive;
 use wire::Follower;
@@ -15,17 +14,18 @@ use wire::Header;
 impl Phy {
     // The ones that a PHY which accepts suppressed preambles needs before a frame.
     pub const SUPPRESSED_ONES: u8 = 1;
-    // A whole frame divided by this is its header, and its data is what is left over this: 18 bits behind the header,
-    // of which 16 are data.
-    const BEHIND_HEADER: u32 = 0x4_0000;
-
-    const BEHIND_DATA: u32 = 0x1_0000;
-    // The bits of a frame that are seen before its header's last one, and with it.
+    // Of a frame's bits, those seen before the header's last one, and those of the header.
     const BEFORE_HEADER: u8 = 13;
 
     const HEADER: u8 = 14;
     // The bits seen before the clock in which an answer starts: it drives 0 for bit 16.
     const BEFORE_ANSWER: u8 = 15;
+    // How many values the 18 bits behind a header have, and the last 16 of them, the data.
+    const TAIL_VALUES: u32 = 0x4_0000;
+
+    const DATA_VALUES: u32 = 0x1_0000;
+    // How many values a frame has without its last bit.
+    const HALF_FRAME_VALUES: u32 = 0x8000_0000;
 
     // As a load leaves it: hunting with 0 ones, link down, registers at default.
     pub fn fresh(address: u8, implemented: u32, defaults: [u16; 32], masks: [u16; 32]) -> Phy
@@ -175,16 +175,24 @@ impl Phy {
         match seen {
             Phy::BEFORE_HEADER => self.at_header(Header::of(bits)),
             Follower::MOST_SEEN => {
-                let header = Header::of(bits / Phy::BEHIND_HEADER);
-                let word = (bits % Phy::BEHIND_DATA) as u16;
+                let header = Header::of(bits / Phy::TAIL_VALUES);
+                let word = (bits % Phy::DATA_VALUES) as u16;
                 self.after_frame(header, word).with_captured(0)
             }
             _ => self,
         }
     }
 
+    // The bits of a frame with one more behind them.
+    fn one_more(bits: u32, level: bool) -> u32
+        ensures { λ r. ⌜ r ≡ oneMore bits level ⌝ }
+    {
+        let shifted = bits % Phy::HALF_FRAME_VALUES * 2;
+        if level { shifted + 1 } else { shifted }
+    }
+
     // The PHY after a clock at a level.
-    pub fn clock(self, level: bool) -> Phy
+    pub fn clock(mut self, level: bool) -> Phy
         ensures { λ r. ⌜ r ≡ clock level self ⌝ }
     {
         let follower = self.follower;
@@ -192,11 +200,7 @@ impl Phy {
         let Follower::Inside(seen, bits) = follower else {
             return self.with_follower(next);
         };
-        let shifted = bits % 2147483648 * 2;
-        if level {
-            self.acts(seen, shifted + 1).with_follower(next)
-        } else {
-            self.acts(seen, shifted).with_follower(next)
-        }
+        self = self.acts(seen, Phy::one_more(bits, level));
+        self.with_follower(next)
     }
 }

@@ -2,7 +2,7 @@
 use mathlib.Core.Bool.{not}
 use borrow.Author.Tests.{eq-eqb, ne-eqb}
 use Rattle.phy.specs.Registers.{afterWrite, writeBy}
-use Rattle.phy.proofs.Registers32.{implemented-below}
+use Rattle.phy.proofs.Implemented.{implemented-below}
 use borrow.Author.Needs.{needs}
 use Rattle.phy.proofs.Phy.after_write.Statement.{statement}
 use Rattle.phy.proofs.Phy.after_write.Tie as tie

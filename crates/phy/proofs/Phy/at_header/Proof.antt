@@ -2,12 +2,6 @@
 use borrow.Author.Needs.{needs}
 use Rattle.phy.proofs.Phy.at_header.Statement.{statement}
 use Rattle.phy.proofs.Phy.at_header.Tie as tie
-use Rattle.phy.proofs.Phy.at_header.Reads as reads
-use Rattle.phy.proofs.Phy.at_header.Lts as lts
-use Rattle.phy.proofs.Phy.after_header.Reads as after-header-reads
-use Rattle.phy.proofs.Phy.answers.Reads as answers-reads
-use Rattle.phy.proofs.Phy.with_captured.Reads as with-captured-reads
-use Rattle.phy.proofs.Phy.word.Reads as word-reads
 use Rattle.phy.specs.Clock.{atHeader}
 
 answers-requires : tie.Need-answers-requires

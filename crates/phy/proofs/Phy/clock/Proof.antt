@@ -1,12 +1,11 @@
 -- The follower moves by the level, and what else the clock does goes by the bits seen.
+use mathlib.Core.Path.{sym, ap, ap₂, _∙_}
+use Prim.Native.Nat.{ℕ}
 use Rattle.wire.specs.declared.Follower.the-variants.{Hunting, Inside}
-use Rattle.wire.specs.Follower.{follow, oneMore}
+use Rattle.wire.specs.Follower.{follow}
 use Rattle.phy.specs.Fields.{withFollower}
 use Rattle.phy.specs.Clock.{acts}
 use Rattle.phy.proofs.Clocks.{clock-by}
-use mathlib.Core.Path.{sym, ap, ap₂, _∙_}
-use Rattle.phy.specs.Clock.{clock}
-use Prim.Native.Nat.{ℕ}
 use borrow.Author.Needs.{needs}
 use Rattle.phy.proofs.Phy.clock.Statement.{statement}
 use Rattle.phy.proofs.Phy.clock.Tie as tie
@@ -35,11 +34,8 @@ returns c =
     ∙ ap (λ f. withFollower f self) next
     ∙ sym (clock-by level self (Hunting _) (c .before .enum-told .given .1))
 
-mul-shifted : tie.Need-mul-shifted
-mul-shifted c = search needs
-
-add-acts : tie.Need-add-acts
-add-acts c = search needs
+one-more-requires : tie.Need-one-more-requires
+one-more-requires c κs = search needs
 
 acts-requires : tie.Need-acts-requires
 acts-requires c κs = search needs
@@ -47,35 +43,15 @@ acts-requires c κs = search needs
 with-follower-requires-2 : tie.Need-with-follower-requires-2
 with-follower-requires-2 c κs = search needs
 
-acts-requires-2 : tie.Need-acts-requires-2
-acts-requires-2 c κs = search needs
-
-with-follower-requires-3 : tie.Need-with-follower-requires-3
-with-follower-requires-3 c κs = search needs
-
 returns-2 : tie.Need-returns-2
 returns-2 c =
     let self = c .before .before .before .before .before .before .before .before .args .self in
     let level = c .before .before .before .before .before .before .before .before .args .level in
     let next = c .before .before .before .before .before .before .follow .ensures ∙ ap (λ (n : ℕ). follow n level (self .follower)) (c .before .before .before .before .before .before .before .enough .ensures) in
     let now = c .before .before .before .before .follower .given in
-    let seen = now .0 .0 in
-    let bits = now .0 .1 .0 in
     c .with-follower2 .ensures
-    ∙ ap₂ withFollower next (c .before .acts .ensures ∙ ap (λ (b : ℕ). acts seen b self) (sym (ap (oneMore bits) (c .before .before .if1 .taken))))
-    ∙ sym (clock-by level self (Inside seen bits) (now .1))
-
-returns-3 : tie.Need-returns-3
-returns-3 c =
-    let self = c .before .before .before .before .before .before .before .before .args .self in
-    let level = c .before .before .before .before .before .before .before .before .args .level in
-    let next = c .before .before .before .before .before .before .follow .ensures ∙ ap (λ (n : ℕ). follow n level (self .follower)) (c .before .before .before .before .before .before .before .enough .ensures) in
-    let now = c .before .before .before .before .follower .given in
-    let seen = now .0 .0 in
-    let bits = now .0 .1 .0 in
-    c .with-follower3 .ensures
-    ∙ ap₂ withFollower next (c .before .acts2 .ensures ∙ ap (λ (b : ℕ). acts seen b self) (sym (ap (oneMore bits) (c .before .before .if1 .left))))
-    ∙ sym (clock-by level self (Inside seen bits) (now .1))
+    ∙ ap₂ withFollower next (c .before .acts .ensures ∙ ap (λ (b : ℕ). acts (now .0 .0) b self) (c .before .before .one-more .ensures))
+    ∙ sym (clock-by level self (Inside (now .0 .0) (now .0 .1 .0)) (now .1))
 
 pub clock-spec : {M : Type 1} → statement M
 clock-spec =
@@ -87,11 +63,7 @@ clock-spec =
     enum-told
     with-follower-requires
     returns
-    mul-shifted
-    add-acts
+    one-more-requires
     acts-requires
     with-follower-requires-2
-    acts-requires-2
-    with-follower-requires-3
-    returns-2
-    returns-3)
+    returns-2)

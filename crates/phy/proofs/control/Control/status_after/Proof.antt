@@ -2,9 +2,6 @@
 use borrow.Author.Needs.{needs}
 use Rattle.phy.proofs.control.Control.status_after.Statement.{statement}
 use Rattle.phy.proofs.control.Control.status_after.Tie as tie
-use Rattle.phy.proofs.control.Control.status_after.Reads as reads
-use Rattle.phy.proofs.control.Control.status_after.Lts as lts
-use Rattle.phy.proofs.control.Control.enable.Reads as enable-reads
 use mathlib.Core.Path.{_≡_}
 use native.Mathlib.Omega.{arith}
 use borrow.Author.Tests.{eq-eqb, ne-eqb}
