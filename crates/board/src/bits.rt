@@ -3,81 +3,70 @@ ghost use mathlib.Core.Path.{_≡_};
 ghost use Rattle.phy.specs.Abilities.{able10, able100, able1000, ableFull, ableHalf};
 ghost use Rattle.phy.specs.Sound.{standsOutside};
 
-// What a register's bit counts, by its place.
-pub(crate) struct Bit {}
+// The numbers of registers 0 and 1 that a record's default and a sound PHY are asked about.
+pub(crate) struct Register {}
 
-impl Bit {
-    pub(crate) const B1: u16 = 2;
+impl Register {
+    pub(crate) const COUNT: usize = 32;
+    // Bits of register 0.
+    pub(crate) const RESET: u16 = 32768;
 
-    pub(crate) const B2: u16 = 4;
+    pub(crate) const SPEED_100: u16 = 8192;
 
-    pub(crate) const B3: u16 = 8;
+    pub(crate) const NEGOTIATION: u16 = 4096;
 
-    pub(crate) const B4: u16 = 16;
+    pub(crate) const ISOLATE: u16 = 1024;
 
-    pub(crate) const B5: u16 = 32;
+    pub(crate) const FULL_DUPLEX: u16 = 256;
 
-    pub(crate) const B6: u16 = 64;
+    pub(crate) const SPEED_1000: u16 = 64;
+    // Register 0's bits 4:0 and register 15's bits 11:0 are what is left by these.
+    pub(crate) const CONTROL_RESERVED: u16 = 32;
 
-    pub(crate) const B7: u16 = 128;
-
-    pub(crate) const B8: u16 = 256;
-
-    pub(crate) const B9: u16 = 512;
-
-    pub(crate) const B10: u16 = 1024;
-
-    pub(crate) const B11: u16 = 2048;
-
-    pub(crate) const B12: u16 = 4096;
-
-    pub(crate) const B13: u16 = 8192;
-
-    pub(crate) const B14: u16 = 16384;
-
-    pub(crate) const B15: u16 = 32768;
+    pub(crate) const EXTENDED_RESERVED: u16 = 4096;
+    // Bits 5, 4, 2 and 1 of register 1 move; the others stand at default.
+    pub(crate) const STATUS_MOVES: u16 = 32 + 16 + 4 + 2;
 }
 
 pub(crate) fn able10(status: u16, extended: u16) -> bool
     ensures { λ r. ⌜ r ≡ able10 status extended ⌝ }
 {
-    (status / Bit::B12 % 2 == 1) | (status / Bit::B11 % 2 == 1)
+    ((status >> 12) % 2 == 1) | ((status >> 11) % 2 == 1)
 }
 
 pub(crate) fn able100(status: u16, extended: u16) -> bool
     ensures { λ r. ⌜ r ≡ able100 status extended ⌝ }
 {
-    (status / Bit::B15 % 2 == 1)
-        | ((status / Bit::B14 % 2 == 1)
-            | ((status / Bit::B13 % 2 == 1)
-                | ((status / Bit::B10 % 2 == 1) | (status / Bit::B9 % 2 == 1))))
+    ((status >> 15) % 2 == 1)
+        | (((status >> 14) % 2 == 1)
+            | (((status >> 13) % 2 == 1) | (((status >> 10) % 2 == 1) | ((status >> 9) % 2 == 1))))
 }
 
 pub(crate) fn able1000(status: u16, extended: u16) -> bool
     ensures { λ r. ⌜ r ≡ able1000 status extended ⌝ }
 {
-    (extended / Bit::B15 % 2 == 1)
-        | ((extended / Bit::B14 % 2 == 1)
-            | ((extended / Bit::B13 % 2 == 1) | (extended / Bit::B12 % 2 == 1)))
+    ((extended >> 15) % 2 == 1)
+        | (((extended >> 14) % 2 == 1)
+            | (((extended >> 13) % 2 == 1) | ((extended >> 12) % 2 == 1)))
 }
 
 pub(crate) fn able_full(status: u16, extended: u16) -> bool
     ensures { λ r. ⌜ r ≡ ableFull status extended ⌝ }
 {
-    (status / Bit::B14 % 2 == 1)
-        | ((status / Bit::B12 % 2 == 1)
-            | ((status / Bit::B10 % 2 == 1)
-                | ((extended / Bit::B15 % 2 == 1) | (extended / Bit::B13 % 2 == 1))))
+    ((status >> 14) % 2 == 1)
+        | (((status >> 12) % 2 == 1)
+            | (((status >> 10) % 2 == 1)
+                | (((extended >> 15) % 2 == 1) | ((extended >> 13) % 2 == 1))))
 }
 
 pub(crate) fn able_half(status: u16, extended: u16) -> bool
     ensures { λ r. ⌜ r ≡ ableHalf status extended ⌝ }
 {
-    (status / Bit::B15 % 2 == 1)
-        | ((status / Bit::B13 % 2 == 1)
-            | ((status / Bit::B11 % 2 == 1)
-                | ((status / Bit::B9 % 2 == 1)
-                    | ((extended / Bit::B14 % 2 == 1) | (extended / Bit::B12 % 2 == 1)))))
+    ((status >> 15) % 2 == 1)
+        | (((status >> 13) % 2 == 1)
+            | (((status >> 11) % 2 == 1)
+                | (((status >> 9) % 2 == 1)
+                    | (((extended >> 14) % 2 == 1) | ((extended >> 12) % 2 == 1)))))
 }
 
 // Whether the bits outside a mask stand as in another word.

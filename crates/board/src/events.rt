@@ -1,6 +1,7 @@
 // The event file (document 01, "Records": "Events, 4 bytes, 0 to 256: clock number (2 bytes), PHY address, code").
 
 use crate::Board;
+use crate::record;
 use crate::record::Record;
 use verdict::Verdict;
 ghost use mathlib.Core.Path.{_≡_};
@@ -50,9 +51,9 @@ fn on_board(board: Board, address: u8) -> bool
     let phys = board.phys;
     let count = board.count;
     if Board::PLACES < count {
-        return crate::record::has_address(phys, Board::PLACES, address);
+        return record::has_address(phys, Board::PLACES, address);
     }
-    crate::record::has_address(phys, count, address)
+    record::has_address(phys, count, address)
 }
 
 // Checks 8 and 9 of the event record at index k, where `before` is the clock of the one before it.

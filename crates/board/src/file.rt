@@ -2,7 +2,9 @@
 
 use crate::Board;
 use crate::Loaded;
+use crate::record;
 use crate::record::Record;
+use crate::sound;
 use phy::Phy;
 use verdict::Verdict;
 use wire::Follower;
@@ -60,7 +62,7 @@ fn phy_at(file: &[u8], k: usize) -> Phy
 fn refused(number: u8, index: usize) -> Loaded
     ensures { λ r. ⌜ r ≡ refusedLoad number index ⌝ }
 {
-    let blank = crate::sound::blank();
+    let blank = sound::blank();
     Loaded {
         verdict: Verdict::Refused(number, index),
         board: Board {
@@ -81,14 +83,14 @@ pub fn load(file: &[u8]) -> Loaded
     if Board::PLACES < count {
         return refused(Verdict::TOO_MANY, 0);
     }
-    let blank = crate::sound::blank();
+    let blank = sound::blank();
     let mut phys = [blank; 32];
     let mut k: usize = 0;
     while k < count {
         let phy = phy_at(file, k);
         let zero = file[k * Board::RECORD + 1];
-        let used = crate::record::has_address(phys, k, phy.address);
-        let record = crate::record::judge(zero, used, phy);
+        let used = record::has_address(phys, k, phy.address);
+        let record = record::judge(zero, used, phy);
         let Record::Good = record else {
             return refused(record.refusal(), k);
         };

@@ -24,6 +24,8 @@ pub struct Board {
 
 impl Board {
     pub const PLACES: usize = 32;
+
+    pub const LAST_ADDRESS: u8 = 31;
     // The sizes of a board record and of an event record, and the most events.
     pub const RECORD: usize = 134;
 
@@ -48,7 +50,7 @@ pub fn check(board: Board) -> Verdict
     }
     let mut k: usize = 0;
     while k < Board::PLACES {
-        if !crate::sound::place_sound(board, k) {
+        if !sound::place_sound(board, k) {
             return Verdict::Refused(Verdict::NOT_SOUND, k);
         }
         k += 1;

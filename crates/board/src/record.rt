@@ -1,5 +1,7 @@
 // One board record: checks 3 to 6 (document 01, "Board checks").
-use crate::bits::Bit;
+use crate::Board;
+use crate::bits;
+use crate::bits::Register;
 use phy::Phy;
 use verdict::Verdict;
 ghost use mathlib.Core.Path.{_≡_};
@@ -29,9 +31,10 @@ impl Record {
 fn others_implemented(implemented: u32) -> bool
     ensures { λ r. ⌜ r ≡ othersImplemented implemented ⌝ }
 {
-    let mut r: u32 = 0;
-    while r < 32 {
-        if (((2 <= r) & (r <= 12)) | (16 <= r)) & ((implemented >> r) % 2 == 1) {
+    let mut r: usize = 0;
+    while r < Register::COUNT {
+        let there = (implemented >> (r as u32)) % 2 == 1;
+        if (((2 <= r) & (r <= 12)) | (16 <= r)) & there {
             return true;
         }
         r += 1;
@@ -46,10 +49,10 @@ fn register_set_right(implemented: u32, defaults: [u16; 32]) -> bool
     let status = defaults[1];
     let others = others_implemented(implemented);
     let basic = (implemented % 2 == 1)
-        & ((implemented / 2 % 2 == 1)
-            & (!(implemented / 8192 % 2 == 1) & !(implemented / 16384 % 2 == 1)));
+        & (((implemented >> 1) % 2 == 1)
+            & (!((implemented >> 13) % 2 == 1) & !((implemented >> 14) % 2 == 1)));
     basic
-        & (((implemented / 32768 % 2 == 1) == (status / Bit::B8 % 2 == 1))
+        & ((((implemented >> 15) % 2 == 1) == ((status >> 8) % 2 == 1))
             & ((status % 2 == 1) == others))
 }
 
@@ -58,7 +61,7 @@ fn unimplemented_zero(implemented: u32, defaults: [u16; 32], masks: [u16; 32]) -
     ensures { λ r. ⌜ r ≡ unimplementedZero implemented defaults masks ⌝ }
 {
     let mut r: usize = 0;
-    while r < 32 {
+    while r < Register::COUNT {
         let there = (implemented >> (r as u32)) % 2 == 1;
         if !(there | ((defaults[r] == 0) & (masks[r] == 0))) {
             return false;
@@ -72,11 +75,11 @@ fn unimplemented_zero(implemented: u32, defaults: [u16; 32], masks: [u16; 32]) -
 fn fastest(status: u16, extended: u16) -> u16
     ensures { λ r. ⌜ r ≡ fastest status extended ⌝ }
 {
-    if crate::bits::able1000(status, extended) {
-        return Bit::B6;
+    if bits::able1000(status, extended) {
+        return Register::SPEED_1000;
     }
-    if crate::bits::able100(status, extended) {
-        return Bit::B13;
+    if bits::able100(status, extended) {
+        return Register::SPEED_100;
     }
     0
 }
@@ -86,11 +89,11 @@ fn derived_control(status: u16, extended: u16) -> u16
     ensures { λ r. ⌜ r ≡ derivedControl status extended ⌝ }
 {
     let speed = fastest(status, extended);
-    let negotiation = status / Bit::B3 % 2 * Bit::B12;
-    if crate::bits::able_half(status, extended) {
-        return speed + (negotiation + 0);
+    let negotiation = (status >> 3) % 2 * Register::NEGOTIATION;
+    if bits::able_half(status, extended) {
+        return speed + negotiation;
     }
-    speed + (negotiation + Bit::B8)
+    speed + (negotiation + Register::FULL_DUPLEX)
 }
 
 // Check 6 on the defaults of registers 0, 1 and 15.
@@ -98,14 +101,13 @@ fn words_right(control: u16, status: u16, extended: u16) -> bool
     ensures { λ r. ⌜ r ≡ wordsRight control status extended ⌝ }
 {
     let derived = derived_control(status, extended);
-    let able = crate::bits::able10(status, extended)
-        | (crate::bits::able100(status, extended) | crate::bits::able1000(status, extended));
-    let clear = !(status / Bit::B5 % 2 == 1)
-        & (!(status / Bit::B4 % 2 == 1)
-            & (!(status / Bit::B2 % 2 == 1) & !(status / Bit::B1 % 2 == 1)));
+    let able = bits::able10(status, extended)
+        | (bits::able100(status, extended) | bits::able1000(status, extended));
+    let clear = !((status >> 5) % 2 == 1)
+        & (!((status >> 4) % 2 == 1) & (!((status >> 2) % 2 == 1) & !((status >> 1) % 2 == 1)));
     clear
-        & ((extended % Bit::B12 == 0)
-            & (able & (control == derived + control / Bit::B10 % 2 * Bit::B10)))
+        & ((extended % Register::EXTENDED_RESERVED == 0)
+            & (able & (control == derived + (control >> 10) % 2 * Register::ISOLATE)))
 }
 
 // Check 6.
@@ -138,7 +140,7 @@ pub(crate) fn has_address(phys: [Phy; 32], n: usize, address: u8) -> bool
 pub(crate) fn judge(zero: u8, used: bool, phy: Phy) -> Record
     ensures { λ r. ⌜ r ≡ recordOf (faultOf zero used phy) ⌝ }
 {
-    if (31 < phy.address) | (zero != 0) {
+    if (Board::LAST_ADDRESS < phy.address) | (zero != 0) {
         return Record::Bad(Verdict::WRONG_FIELD);
     }
     if used {

@@ -1,6 +1,8 @@
 // What makes a PHY sound beside its record, and a place blank (document 01, "A sound board").
 use crate::Board;
-use crate::bits::Bit;
+use crate::bits;
+use crate::bits::Register;
+use crate::record;
 use crate::record::Record;
 use phy::Phy;
 use wire::Follower;
@@ -11,12 +13,13 @@ ghost use Rattle.phy.specs.Sound.{speedAble, controlSound, registersStand, othe
 ghost use Rattle.phy.specs.Abilities.{one};
 ghost use Rattle.board.specs.Check.{placeSound};
 
+// Bits outside masks stand at default in registers above 1.
 fn registers_stand(phy: Phy) -> bool
     ensures { λ r. ⌜ r ≡ registersStand phy ⌝ }
 {
     let mut r: usize = 0;
-    while r < 32 {
-        let stands = crate::bits::stands_outside(phy.masks[r], phy.registers[r], phy.defaults[r]);
+    while r < Register::COUNT {
+        let stands = bits::stands_outside(phy.masks[r], phy.registers[r], phy.defaults[r]);
         if !((r <= 1) | stands) {
             return false;
         }
@@ -25,21 +28,23 @@ fn registers_stand(phy: Phy) -> bool
     true
 }
 
+// Whether the speed of bits 6 and 13 is able.
 fn speed_able(control: u16, status: u16, extended: u16) -> bool
     ensures { λ r. ⌜ r ≡ speedAble (one 6 control) (one 13 control) status extended ⌝ }
 {
-    if control / Bit::B6 % 2 == 1 {
-        if control / Bit::B13 % 2 == 1 {
+    if (control >> 6) % 2 == 1 {
+        if (control >> 13) % 2 == 1 {
             return false;
         }
-        return crate::bits::able1000(status, extended);
+        return bits::able1000(status, extended);
     }
-    if control / Bit::B13 % 2 == 1 {
-        return crate::bits::able100(status, extended);
+    if (control >> 13) % 2 == 1 {
+        return bits::able100(status, extended);
     }
-    crate::bits::able10(status, extended)
+    bits::able10(status, extended)
 }
 
+// What register 0 is asked.
 fn control_sound(phy: Phy) -> bool
     ensures { λ r. ⌜ r ≡ controlSound phy ⌝ }
 {
@@ -47,21 +52,24 @@ fn control_sound(phy: Phy) -> bool
     let status = phy.registers[1];
     let extended = phy.registers[15];
     let speed = speed_able(control, status, extended);
-    let full = crate::bits::able_full(status, extended);
-    let half = crate::bits::able_half(status, extended);
-    let negotiation = !(control / Bit::B12 % 2 == 1) | (status / Bit::B3 % 2 == 1);
-    let restart = !(control / Bit::B9 % 2 == 1) | (control / Bit::B12 % 2 == 1);
-    let duplex = ((control / Bit::B8 % 2 == 1) | (half | !full))
-        & (!(control / Bit::B8 % 2 == 1) | (full | !half));
-    let unidirection = !(control / Bit::B5 % 2 == 1) | (status / Bit::B7 % 2 == 1);
-    speed & (negotiation & (restart & (duplex & (unidirection & (control % Bit::B5 == 0)))))
+    let full = bits::able_full(status, extended);
+    let half = bits::able_half(status, extended);
+    let negotiation = !((control >> 12) % 2 == 1) | ((status >> 3) % 2 == 1);
+    let restart = !((control >> 9) % 2 == 1) | ((control >> 12) % 2 == 1);
+    let duplex = (((control >> 8) % 2 == 1) | (half | !full))
+        & (!((control >> 8) % 2 == 1) | (full | !half));
+    let unidirection = !((control >> 5) % 2 == 1) | ((status >> 7) % 2 == 1);
+    speed
+        & (negotiation
+            & (restart & (duplex & (unidirection & (control % Register::CONTROL_RESERVED == 0)))))
 }
 
+// All registers but 0 stand at default.
 fn others_at_default(phy: Phy) -> bool
     ensures { λ r. ⌜ r ≡ othersAtDefault phy ⌝ }
 {
     let mut r: usize = 0;
-    while r < 32 {
+    while r < Register::COUNT {
         if !((r <= 0) | (phy.registers[r] == phy.defaults[r])) {
             return false;
         }
@@ -70,15 +78,17 @@ fn others_at_default(phy: Phy) -> bool
     true
 }
 
+// In reset all else stands at default with the link down.
 fn reset_stands(phy: Phy) -> bool
     ensures { λ r. ⌜ r ≡ resetStands phy ⌝ }
 {
     let control = phy.registers[0];
-    let stands = crate::bits::stands_outside(Bit::B15, control, phy.defaults[0]);
+    let stands = bits::stands_outside(Register::RESET, control, phy.defaults[0]);
     let others = others_at_default(phy);
-    !(control / Bit::B15 % 2 == 1) | (stands & (others & !phy.link))
+    !((control >> 15) % 2 == 1) | (stands & (others & !phy.link))
 }
 
+// Hunting with 0 to 32 ones, or inside a frame with 1 to 31 bits, the first 0 and any second 1.
 fn follower_sound(follower: Follower) -> bool
     ensures { λ r. ⌜ r ≡ followerSound follower ⌝ }
 {
@@ -100,21 +110,27 @@ fn follower_sound(follower: Follower) -> bool
     }
 }
 
+// How many bits a header has, and the op of a read.
+const HEADER_BITS: u8 = 14;
+
+const READ: u8 = 2;
+
+// Whether a PHY is in an own read of an implemented register, from the 14th bit on.
 fn answering(phy: Phy, follower: Follower) -> bool
     ensures { λ r. ⌜ r ≡ answering phy follower ⌝ }
 {
     match follower {
         Follower::Hunting(_) => false,
         Follower::Inside(seen, bits) => {
-            if seen < 14 {
+            if seen < HEADER_BITS {
                 return false;
             }
             if Follower::MOST_SEEN < seen {
                 return false;
             }
-            let behind = seen as u32 - 14;
+            let behind = (seen - HEADER_BITS) as u32;
             let header = Header::of(bits >> behind);
-            (header.op == 2)
+            (header.op == READ)
                 & ((header.address == phy.address)
                     & ((phy.implemented >> (header.register as u32)) % 2 == 1))
         }
@@ -129,24 +145,24 @@ fn phy_sound(phy: Phy) -> bool
     let status = phy.registers[1];
     let follower = phy.follower;
     let registers = registers_stand(phy);
-    let held = Bit::B5 + Bit::B4 + Bit::B2 + Bit::B1;
-    let status_stands = crate::bits::stands_outside(held, status, phy.defaults[1]);
+    let status_stands = bits::stands_outside(Register::STATUS_MOVES, status, phy.defaults[1]);
     let control_right = control_sound(phy);
     let reset = reset_stands(phy);
-    let complete = !(status / Bit::B5 % 2 == 1)
-        | ((control / Bit::B12 % 2 == 1) & !(control / Bit::B9 % 2 == 1));
-    let link = !(status / Bit::B2 % 2 == 1) | phy.link;
+    let complete = !((status >> 5) % 2 == 1)
+        | (((control >> 12) % 2 == 1) & !((control >> 9) % 2 == 1));
+    let link = !((status >> 2) % 2 == 1) | phy.link;
     let follows = follower_sound(follower);
     let captured = answering(phy, follower) | (phy.captured == 0);
     registers
         & (status_stands & (control_right & (reset & (complete & (link & (follows & captured))))))
 }
 
+// Whether all words are zero.
 fn zeros(words: [u16; 32]) -> bool
     ensures { λ r. ⌜ r ≡ zeros words ⌝ }
 {
     let mut r: usize = 0;
-    while r < 32 {
+    while r < Register::COUNT {
         if words[r] != 0 {
             return false;
         }
@@ -155,6 +171,7 @@ fn zeros(words: [u16; 32]) -> bool
     true
 }
 
+// Hunting with 0 ones.
 fn hunts_fresh(follower: Follower) -> bool
     ensures { λ r. ⌜ r ≡ huntsFresh follower ⌝ }
 {
@@ -164,6 +181,7 @@ fn hunts_fresh(follower: Follower) -> bool
     }
 }
 
+// Whether a place is blank: numbers zero, hunting with 0 ones, link down.
 fn is_blank(phy: Phy) -> bool
     ensures { λ r. ⌜ r ≡ isBlank phy ⌝ }
 {
@@ -206,8 +224,8 @@ pub(crate) fn place_sound(board: Board, k: usize) -> bool
     if board.count <= k {
         return is_blank(phy);
     }
-    let used = crate::record::has_address(phys, k, phy.address);
-    let record = crate::record::judge(0, used, phy);
+    let used = record::has_address(phys, k, phy.address);
+    let record = record::judge(0, used, phy);
     let Record::Good = record else {
         return false;
     };

@@ -1,8 +1,9 @@
 -- Speed, bit 12 and bit 8 are added up as `derivedControl` says; each has its own bits, so the sum fits.
 use Prim.Native.Nat.{_≤_}
-use Rattle.phy.proofs.Derived.{fastest-most}
 use native.Mathlib.Omega.{arith}
-use Rattle.phy.specs.Record.{fastest, derivedControl}
+use native.Mathlib.Nat.{add-zero}
+use Rattle.phy.specs.Record.{derivedControl}
+use Rattle.phy.proofs.Derived.{fastest-most}
 use borrow.Author.Needs.{needs}
 use Rattle.board.proofs.record.derived_control.Statement.{statement}
 use Rattle.board.proofs.record.derived_control.Tie as tie
@@ -17,22 +18,19 @@ able-half-requires : tie.Need-able-half-requires
 able-half-requires c κs = search needs
 
 add-result : tie.Need-add-result
-add-result c = search needs
-
-add-result-2 : tie.Need-add-result-2
-add-result-2 c =
+add-result c =
     let speed : c .before .before .fastest .result ≤ 8192 = rw (c .before .before .fastest .ensures) (fastest-most (c .before .before .before .args .status) (c .before .before .before .args .extended)) in
     omega arith
 
 returns : tie.Need-returns
 unfolding derivedControl
-returns c = rw (c .before .before .fastest .ensures, ← (c .before .able-half .ensures), c .if1 .taken)
+returns c = rw (c .before .before .fastest .ensures, ← (c .before .able-half .ensures), c .if1 .taken, add-zero)
+
+add-result-2 : tie.Need-add-result-2
+add-result-2 c = search needs
 
 add-result-3 : tie.Need-add-result-3
-add-result-3 c = search needs
-
-add-result-4 : tie.Need-add-result-4
-add-result-4 c =
+add-result-3 c =
     let speed : c .before .before .fastest .result ≤ 8192 = rw (c .before .before .fastest .ensures) (fastest-most (c .before .before .before .args .status) (c .before .before .before .args .extended)) in
     omega arith
 
@@ -48,8 +46,7 @@ derived-control-spec =
     mul-negotiation
     able-half-requires
     add-result
-    add-result-2
     returns
+    add-result-2
     add-result-3
-    add-result-4
     returns-2)

@@ -19,8 +19,11 @@ loop-holds : tie.Need-loop-holds Inv-loop μ-loop
 unfolding any
 loop-holds c = (search needs, refl)
 
-shr-if1 : tie.Need-shr-if1 Inv-loop μ-loop
-shr-if1 c = search needs
+cast-there : tie.Need-cast-there Inv-loop μ-loop
+cast-there c = search needs
+
+shr-there : tie.Need-shr-there Inv-loop μ-loop
+shr-there c = search needs
 
 returns : tie.Need-returns Inv-loop μ-loop
 unfolding othersImplemented
@@ -44,4 +47,14 @@ returns-2 c =
 pub others-implemented-spec : {M : Type 1} → statement M
 others-implemented-spec =
     tie.close
-    (tie.spec Inv-loop μ-loop loop-holds shr-if1 returns add-r loop-less loop-again returns-2)
+    (tie.spec
+    Inv-loop
+    μ-loop
+    loop-holds
+    cast-there
+    shr-there
+    returns
+    add-r
+    loop-less
+    loop-again
+    returns-2)

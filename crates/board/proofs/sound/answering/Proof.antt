@@ -1,11 +1,11 @@
 -- Only inside a frame with 14 to 31 bits seen: the header decides.
+use borrow.Author.Needs.{needs}
+use Rattle.board.proofs.sound.answering.Statement.{statement}
+use Rattle.board.proofs.sound.answering.Tie as tie
 use borrow.Author.Tests.{lt-leb, le-leb}
 use native.Mathlib.Omega.{arith}
 use Rattle.wire.specs.Follower.{headerOf}
 use Rattle.phy.specs.Sound.{answering}
-use borrow.Author.Needs.{needs}
-use Rattle.board.proofs.sound.answering.Statement.{statement}
-use Rattle.board.proofs.sound.answering.Tie as tie
 
 enum-told : tie.Need-enum-told
 enum-told c = search needs
@@ -23,9 +23,6 @@ returns-2 c = rw (c .before .before .before .follower .given .1, le-leb 14 _ (c 
 
 cast-behind : tie.Need-cast-behind
 cast-behind c = search needs
-
-sub-behind : tie.Need-sub-behind
-sub-behind c = search needs
 
 shr-of : tie.Need-shr-of
 shr-of c = search needs
@@ -63,7 +60,6 @@ answering-spec =
     returns
     returns-2
     cast-behind
-    sub-behind
     shr-of
     of-requires
     cast-result

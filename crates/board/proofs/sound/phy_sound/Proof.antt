@@ -1,8 +1,8 @@
 -- Each test is its clause of `phySound`.
-use Rattle.phy.specs.Sound.{phySound}
 use borrow.Author.Needs.{needs}
 use Rattle.board.proofs.sound.phy_sound.Statement.{statement}
 use Rattle.board.proofs.sound.phy_sound.Tie as tie
+use Rattle.phy.specs.Sound.{phySound}
 
 element-copy-out-control : tie.Need-element-copy-out-control
 element-copy-out-control c = search needs
@@ -12,15 +12,6 @@ element-copy-out-status c = search needs
 
 registers-stand-requires : tie.Need-registers-stand-requires
 registers-stand-requires c κs = search needs
-
-add-held : tie.Need-add-held
-add-held c = search needs
-
-add-held-2 : tie.Need-add-held-2
-add-held-2 c = search needs
-
-add-held-3 : tie.Need-add-held-3
-add-held-3 c = search needs
 
 element-copy-out-stands-outside : tie.Need-element-copy-out-stands-outside
 element-copy-out-stands-outside c = search needs
@@ -59,9 +50,6 @@ phy-sound-spec =
     element-copy-out-control
     element-copy-out-status
     registers-stand-requires
-    add-held
-    add-held-2
-    add-held-3
     element-copy-out-stands-outside
     stands-outside-requires
     control-sound-requires
