@@ -14,11 +14,11 @@ use Rattle.wire.specs.declared.Drive.the-variants.{Released}
 use Rattle.wire.specs.declared.Follower.the-variants.{Hunting, Inside}
 use Rattle.wire.specs.declared.Header.{Header}
 use Rattle.wire.specs.Wire.{Party, asBit}
-use Rattle.wire.specs.Follower.{oneMore, follow, headerSeen}
+use Rattle.wire.specs.Follower.{oneMore, follow, headerSeen, answering}
 use Rattle.wire.specs.Machines.{Core, quiet}
 use Rattle.wire.proofs.Runs.{Goes}
 use Rattle.wire.proofs.Voices.{says}
-use Rattle.agreement.specs.Follows.{answering, Line, Follows}
+use Rattle.agreement.specs.Follows.{Line, Follows}
 use Rattle.agreement.proofs.Phase.{shown, hears, Fits, guise, early, through}
 use Rattle.agreement.proofs.Seen.{more-fits, same-header, nobody-fits}
 
@@ -76,7 +76,7 @@ module _ {P : Type 0} {wire : Party P} {core : Core P} {line : Line P} {Good : P
   -- who answers the header drives what it captured
   own-drives : (h : Header) (word seen bits : ℕ) (p : P) → Behind h seen bits → wire .drives (guise line (core .answers h) word seen bits p) ≡ says (core .answers h) (answering seen word) p
   own-drives h word seen bits p b =
-      laws .clocked .inside-drives seen bits _ p (omega (arith, b .to))
+      laws .clocked .inside-drives seen bits _ p
       ∙ ap (λ k. cond (core .answers k p) (answering seen (cond (core .answers h p) word 0)) Released) (b .header)
       ∙ own (core .answers h p)
     where

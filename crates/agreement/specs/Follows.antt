@@ -3,18 +3,15 @@ use Prim.Native.Nat.{ℕ, _+_, _-_, _%_, _^_, _≤_, _<_}
 use mathlib.Core.Path.{_≡_}
 use mathlib.Core.Bool.{Bool, false, cond}
 use mathlib.Core.List.{List}
-use lib.Dec.{leb, eqb}
-use Rattle.verdict.specs.Bits.{bit}
 use Rattle.verdict.specs.Lists.{All, count}
 use Rattle.frame.specs.Frame.{headerBits, frameBits}
 use Rattle.frame.specs.List.{write, read}
-use Rattle.wire.specs.declared.Drive.{Drive}
-use Rattle.wire.specs.declared.Drive.the-variants.{Released, Driven}
+use Rattle.wire.specs.declared.Drive.the-variants.{Released}
 use Rattle.wire.specs.declared.Follower.{Follower}
 use Rattle.wire.specs.declared.Follower.the-variants.{Hunting, Inside}
 use Rattle.wire.specs.declared.Header.{Header}
 use Rattle.wire.specs.Wire.{Party}
-use Rattle.wire.specs.Follower.{oneMore, follow, headerSeen}
+use Rattle.wire.specs.Follower.{oneMore, follow, headerSeen, answering}
 use Rattle.wire.specs.Machines.{Core}
 
 -- what a party has of the wire, beside its core: the ones that let a 0 start a frame, its follower and its captured word, and how these two are put
@@ -23,13 +20,6 @@ pub record Line (P : Type 0) : Type 0 where
   pub follower : P → Follower
   pub captured : P → ℕ
   pub put : Follower → ℕ → P → P
-
--- what a party that answers does with so many bits seen: "released for bit 15, drives 0 for bit 16, the word for bits 17 to 32"
-unfoldable pub answering : ℕ → ℕ → Drive
-answering seen word =
-    cond (leb seen headerBits) Released
-    (cond (eqb seen (headerBits + 1)) (Driven false)
-    (Driven (eqb (bit (frameBits - 1 - seen) word) 1)))
 
 -- A party of the wire and of the plain machine; Good is what its laws ask of a value
 module _ {P : Type 0} (wire : Party P) (core : Core P) (line : Line P) (Good : P → Type 0) where
@@ -47,7 +37,7 @@ module _ {P : Type 0} (wire : Party P) (core : Core P) (line : Line P) (Good : P
   -- what a party drives, and what a level makes of it, by its follower's place
   pub record Clocked : Type 0 where
     pub hunting-drives : (ones w : ℕ) (p : P) → wire .drives (line .put (Hunting ones) w p) ≡ Released
-    pub inside-drives : (seen bits w : ℕ) (p : P) → seen < frameBits →
+    pub inside-drives : (seen bits w : ℕ) (p : P) →
         wire .drives (line .put (Inside seen bits) w p) ≡ cond (core .answers (headerSeen seen bits) p) (answering seen w) Released
     pub hunting : (level : Bool) (ones : ℕ) (p : P) →
         wire .samples level (line .put (Hunting ones) 0 p) ≡ line .put (follow (line .enough p) level (Hunting ones)) 0 p
