@@ -11,20 +11,22 @@ use Rattle.frame.specs.Answers.{sent, answerTo}
 use Rattle.wire.specs.declared.Follower.{Follower}
 use Rattle.wire.specs.declared.Header.{Header}
 use Rattle.wire.specs.Wire.{Party}
-use Rattle.wire.specs.Machines.{Core, headerFor, quiet, acting, beforeReads, beforeWrites, clocksWith, readOf, plainAnswer, afterRead, afterWrite, plainAfter, plainAnswers, plainParties}
+use Rattle.wire.specs.Machines.{Core, headerFor, quiet, acting, beforeReads, beforeWrites, clocksWith, readOf, plainAnswer, leftByRead, leftByWrite, plainAfter, plainAnswers, plainParties}
 use Rattle.wire.proofs.Quiet.{quiet-map, quiet-all, quiet-count}
 use Rattle.agreement.specs.Follows.{Line, Keeps, Follows}
 
 module _ {P : Type 0} {wire : Party P} {core : Core P} {line : Line P} {Good : P → Type 0} (laws : Follows wire core line Good) where
   -- a transaction is some clocks, one of which has an effect: what is true of such is true of it
-  plain-acting : (Q : (List P → List P) → Type 0) → ((effect : P → P) → Keeps wire core line Good effect → (c a b : ℕ) → Q (acting core effect c a b)) → (m : ℕ) (t : Transaction) (c : ℕ) → Q (plainAfter core m t c)
+  plain-acting : (Q : (List P → List P) → Type 0) → ((effect : P → P) → Keeps wire core line Good effect → (c a b : ℕ) → Q (acting core effect c a b)) →
+      (m : ℕ) (t : Transaction) (c : ℕ) → Q (plainAfter core m t c)
   plain-acting Q acts m t c = go (isRead t)
     where
-      go : (b : Bool) → Q (λ ps. cond b (afterRead core m t c ps) (afterWrite core m t c ps))
+      go : (b : Bool) → Q (λ ps. cond b (leftByRead core m t c ps) (leftByWrite core m t c ps))
       go true = acts (core .afterHeader (headerFor t)) (laws .keeps-header (headerFor t)) c (beforeReads m) (clocksWith m - beforeReads m)
       go false = acts (core .afterFrame (headerFor t) (t .«data»)) (laws .keeps-frame (headerFor t) (t .«data»)) c (beforeWrites m) (clocksWith m - beforeWrites m)
 
-  pub plain-all : (Q : P → Type 0) → ((effect : P → P) → Keeps wire core line Good effect → (p : P) → Q p → Q (effect p)) → (m : ℕ) (t : Transaction) (c : ℕ) (ps : List P) → All Q ps → All Q (plainAfter core m t c ps)
+  pub plain-all : (Q : P → Type 0) → ((effect : P → P) → Keeps wire core line Good effect → (p : P) → Q p → Q (effect p)) →
+      (m : ℕ) (t : Transaction) (c : ℕ) (ps : List P) → All Q ps → All Q (plainAfter core m t c ps)
   plain-all Q kept =
       let events = quiet-all core Q (λ c. kept (core .happens c) (laws .keeps-events c)) in
       plain-acting (λ plain. (ps : List P) → All Q ps → All Q (plain ps))

@@ -25,11 +25,14 @@ module _ {P : Type 0} (core : Core P) (t : Transaction) where
     pub fits : word < 2 ^ 16
     pub answer : readOf core t ps ≡ cond someone (answerTo t answered word) (answerTo t silent 0)
 
-  pub reading : (ps : List P) → count (core .answers (headerFor t)) ps ≤ 1 → All (λ p. core .word (headerFor t) p < 2 ^ 16) ps → Reading ps
+  pub reading : (ps : List P) → count (core .answers (headerFor t)) ps ≤ 1 →
+      All (λ p. core .word (headerFor t) p < 2 ^ 16) ps → Reading ps
   reading [] one small = record { someone = false; word = 0; voices = refl; captures = tt; fits = omega arith; answer = refl }
   reading (p ∷ ps) one small = go (core .answers (headerFor t) p) refl one (λ l. reading ps l (small .1))
     where
-      go : (b : Bool) → core .answers (headerFor t) p ≡ b → cond b (suc (count (core .answers (headerFor t)) ps)) (count (core .answers (headerFor t)) ps) ≤ 1 → (count (core .answers (headerFor t)) ps ≤ 1 → Reading ps) → Reading (p ∷ ps)
+      go : (b : Bool) → core .answers (headerFor t) p ≡ b →
+          cond b (suc (count (core .answers (headerFor t)) ps)) (count (core .answers (headerFor t)) ps) ≤ 1 →
+          (count (core .answers (headerFor t)) ps ≤ 1 → Reading ps) → Reading (p ∷ ps)
       go true e one rest =
           let none : count (core .answers (headerFor t)) ps ≡ 0 = omega arith in
           record {

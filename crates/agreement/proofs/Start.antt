@@ -18,7 +18,7 @@ use Rattle.wire.specs.Machines.{Core, quiet}
 use Rattle.wire.proofs.Runs.{Goes, goes-nil, goes-cons, goes-append, goes-to}
 use Rattle.wire.proofs.Quiet.{quiet-map}
 use Rattle.wire.proofs.Voices.{Alike, alike-cons, one-voice}
-use Rattle.agreement.specs.Follows.{Line, Follows, Keeps, Ready}
+use Rattle.agreement.specs.Follows.{Line, Follows, Keeps, Waits, Ready}
 use Rattle.agreement.proofs.Phase.{events-of, early}
 
 at-most-one : (d : Drive) → drivers (d ∷ Released ∷ []) ≤ 1
@@ -58,19 +58,20 @@ module _ {P : Type 0} {wire : Party P} {core : Core P} {line : Line P} {Good : P
       let past = quiet-map core (line .put f w) (λ c. laws .keeps-events c .put f w) c n in
       sym (past ps) ∙ ap (quiet core c n) same ∙ past qs
 
-  -- events leave a party ready
-  ready-kept : (effect : P → P) → Keeps wire core line Good effect → (m : ℕ) (p : P) → Ready line Good m p → Ready line Good m (effect p)
-  ready-kept effect keeps m p r =
+  -- effects and events leave a party that waits waiting, and one that is ready ready
+  pub waits-kept : (effect : P → P) → Keeps wire core line Good effect → (p : P) → Waits line Good p → Waits line Good (effect p)
+  waits-kept effect keeps p w =
       let untouched : effect p ≡ line .put (line .follower p) (line .captured p) (effect p) = ap effect (sym (laws .fields .same p)) ∙ keeps .put (line .follower p) (line .captured p) p in
       record {
-        waits = record {
-          good = keeps .good p (r .waits .good);
-          ones = r .waits .ones;
-          hunts = ap (line .follower) untouched ∙ laws .fields .follower _ _ (effect p) ∙ r .waits .hunts;
-          empty = ap (line .captured) untouched ∙ laws .fields .captured _ _ (effect p) ∙ r .waits .empty;
-        };
-        enough = rw (keeps .enough p (r .waits .good)) (r .enough);
+        good = keeps .good p (w .good);
+        ones = w .ones;
+        hunts = ap (line .follower) untouched ∙ laws .fields .follower _ _ (effect p) ∙ w .hunts;
+        empty = ap (line .captured) untouched ∙ laws .fields .captured _ _ (effect p) ∙ w .empty;
       }
+
+  ready-kept : (effect : P → P) → Keeps wire core line Good effect → (m : ℕ) (p : P) → Ready line Good m p → Ready line Good m (effect p)
+  unfolding waits-kept
+  ready-kept effect keeps m p r = record { waits = waits-kept effect keeps p (r .waits); enough = rw (keeps .enough p (r .waits .good)) (r .enough) }
 
   module _ (m : ℕ) (p : P) (r : Ready line Good m p) where
     ready-is : p ≡ line .put (Hunting (r .waits .ones)) 0 p
