@@ -23,12 +23,6 @@ getD-bits (suc n) word d (suc i) h =
     let e : n - (i + 1) ≡ suc n - (suc i + 1) = omega arith in
     getD-bits n word d i (omega arith) ∙ ap (λ k. bit k word) e
 
--- one more bit behind a row doubles what the row says
-pub value-more : (word : ℕ) (row : List ℕ) (b : ℕ) → shiftIn word (row ++ (b ∷ [])) ≡ shiftIn word row * 2 + b
-unfolding shiftIn
-value-more word [] b = refl
-value-more word (x ∷ row) b = value-more (word * 2 + x) row b
-
 pub bits-small : (n word : ℕ) → All (λ b. b < 2) (bits n word)
 unfolding bits
 bits-small zero word = tt
@@ -38,6 +32,11 @@ pub shiftIn-append : (number : ℕ) (xs ys : List ℕ) → shiftIn number (xs ++
 unfolding shiftIn
 shiftIn-append number [] ys = refl
 shiftIn-append number (x ∷ xs) ys = shiftIn-append (number * 2 + x) xs ys
+
+-- one more bit behind a row doubles what the row says
+pub value-more : (word : ℕ) (row : List ℕ) (b : ℕ) → shiftIn word (row ++ (b ∷ [])) ≡ shiftIn word row * 2 + b
+unfolding shiftIn
+value-more word row b = shiftIn-append word row (b ∷ [])
 
 -- n bits of a word come in behind a number
 pub shiftIn-bits : (n number word : ℕ) → shiftIn number (bits n word) ≡ number * 2 ^ n + word % 2 ^ n
