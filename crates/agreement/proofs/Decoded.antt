@@ -34,12 +34,14 @@ clocks-translated [] = refl
 clocks-translated (t ∷ ts) = omega (arith, clocks-translated ts)
 
 -- the same clocks in other words
-heard-shift : (m : ℕ) (t : Transaction) (level shift other : ℕ → ℕ) → ((clock : ℕ) → shift clock ≡ other clock) → heard m t (λ clock. level (shift clock)) ≡ heard m t (λ clock. level (other clock))
+heard-shift : (m : ℕ) (t : Transaction) (level shift other : ℕ → ℕ) → ((clock : ℕ) → shift clock ≡ other clock) →
+    heard m t (λ clock. level (shift clock)) ≡ heard m t (λ clock. level (other clock))
 heard-shift m t level shift other same =
     heard-same m t (λ clock. level (shift clock)) (λ clock. level (other clock)) (ap level (same (m + 16))) (λ i h. ap level (same (m + 17 + i)))
 
 -- what is heard of a list, transaction by transaction
-heard-each : (m n : ℕ) (f : ℕ → Transaction) (level : ℕ → ℕ) → heardAll m m (tabulate n f) level ≡ tabulate n (λ k. heard m (f k) (λ clock. level (k * clocksWith m + clock)))
+heard-each : (m n : ℕ) (f : ℕ → Transaction) (level : ℕ → ℕ) →
+    heardAll m m (tabulate n f) level ≡ tabulate n (λ k. heard m (f k) (λ clock. level (k * clocksWith m + clock)))
 unfolding heardAll tabulate
 heard-each m zero f level = refl
 heard-each m (suc n) f level =
@@ -51,7 +53,8 @@ heard-each m (suc n) f level =
     ∙ sym (tabulate-cons n (λ k. heard m (f k) (λ clock. level (k * clocksWith m + clock))))
 
 -- the level at a clock of a log's part
-part-level : (log : List ℕ) (n k clock : ℕ) → length log ≡ n * logPartBytes → n ≤ mostTransactions → k < n → 1 ≤ clock → clock ≤ clocks → levelAt (logPart log (k + 1)) clock ≡ levelAt log (k * clocks + clock)
+part-level : (log : List ℕ) (n k clock : ℕ) → length log ≡ n * logPartBytes → n ≤ mostTransactions → k < n → 1 ≤ clock → clock ≤ clocks →
+    levelAt (logPart log (k + 1)) clock ≡ levelAt log (k * clocks + clock)
 unfolding levelAt logPart
 part-level log n k clock long few within low high =
     let has : hasPart log (k + 1) ≡ true = rw (le-leb 1 (k + 1) (omega arith), le-leb (k + 1) 64 (omega arith), le-leb ((k + 1) * 325) (length log) (omega arith)) in
@@ -63,7 +66,8 @@ part-level log n k clock long few within low high =
     ∙ ap (λ i. getD log i 0) place))
 
 -- what the decoder writes is what is heard in its log
-pub decoded-heard : (list log : List ℕ) → records listRecord list ≤ mostTransactions → length log ≡ records listRecord list * logPartBytes → answersIn list log ≡ heardAll preamble preamble (transactions list) (levelAt log)
+pub decoded-heard : (list log : List ℕ) → records listRecord list ≤ mostTransactions → length log ≡ records listRecord list * logPartBytes →
+    answersIn list log ≡ heardAll preamble preamble (transactions list) (levelAt log)
 unfolding answerIn
 decoded-heard list log few long =
     tabulate-ext (records listRecord list) _ _ (λ k within. heard-same preamble (transactionAt list k) (levelAt (logPart log (k + 1))) (λ clock. levelAt log (k * clocks + clock))

@@ -43,15 +43,24 @@ bit-of (suc zero ∷ row) zero small within = refl
 bit-of (suc (suc b) ∷ row) zero small within = absurd (omega (arith, small .0))
 bit-of (b ∷ row) (suc i) small within = bit-of row i (small .1) (omega arith)
 
-pub heard-read : (m : ℕ) (t : Transaction) (someone : Bool) (word : ℕ) → word < 2 ^ 16 → isRead t ≡ true → let a = cond someone (answerTo t answered word) (answerTo t silent 0) in heard m t (at (levelsOf m t a)) ≡ a
+-- a read's answer is heard
+pub heard-read : (m : ℕ) (t : Transaction) (someone : Bool) (word : ℕ) → word < 2 ^ 16 → isRead t ≡ true →
+    let a = cond someone (answerTo t answered word) (answerTo t silent 0) in heard m t (at (levelsOf m t a)) ≡ a
 heard-read m t true word fits read =
-    let levels = at (levelsOf m t (answerTo t answered word)) in
-    let row : bits 16 word ≡ tabulate 16 (λ i. levels (m + 17 + i)) = tabulate-of 16 (λ i. levels (m + 17 + i)) (bits 16 word) 0 (length-bits 16 word) (λ i h. sym (at-answer m t (answerTo t answered word) (suc (suc i)) (m + 17 + i) (omega arith) ∙ bit-of (bits 16 word) i (bits-small 16 word) (rw length-bits h))) in
     rw (read, at-answer m t (answerTo t answered word) 1 (m + 16) (omega arith), ← row, value-of-bits 16 word fits)
+  where
+    bit-at : (i : ℕ) → i < 16 → at (levelsOf m t (answerTo t answered word)) (m + 17 + i) ≡ getD (bits 16 word) i 0
+    bit-at i h =
+        at-answer m t (answerTo t answered word) (suc (suc i)) (m + 17 + i) (omega arith)
+        ∙ bit-of (bits 16 word) i (bits-small 16 word) (rw length-bits h)
+
+    row : bits 16 word ≡ tabulate 16 (λ i. at (levelsOf m t (answerTo t answered word)) (m + 17 + i))
+    row = tabulate-of 16 _ (bits 16 word) 0 (length-bits 16 word) (λ i h. sym (bit-at i h))
 heard-read m t false word fits read = rw (read, at-answer m t (answerTo t silent 0) 1 (m + 16) (omega arith))
 
 -- the decoder looks at no level but the turnaround's second and those of the data
-pub heard-same : (m : ℕ) (t : Transaction) (level other : ℕ → ℕ) → level (m + 16) ≡ other (m + 16) → ((i : ℕ) → i < 16 → level (m + 17 + i) ≡ other (m + 17 + i)) → heard m t level ≡ heard m t other
+pub heard-same : (m : ℕ) (t : Transaction) (level other : ℕ → ℕ) → level (m + 16) ≡ other (m + 16) →
+    ((i : ℕ) → i < 16 → level (m + 17 + i) ≡ other (m + 17 + i)) → heard m t level ≡ heard m t other
 heard-same m t level other second word =
     ap₂ (λ l row. cond (isRead t) (readAnswer t (record { second = l }) (valueOf row)) (answerTo t sent (t .«data»))) second (tabulate-ext 16 (λ i. level (m + 17 + i)) (λ i. other (m + 17 + i)) word)
 

@@ -5,18 +5,18 @@ use mathlib.Core.Bool.{Bool, true, false, cond}
 use mathlib.Core.List.{List, [], _∷_, map}
 use native.Mathlib.Omega.{arith}
 use lib.ListN.{length}
-use borrow.Author.Tests.{le-leb}
+use borrow.Author.Tests.{lt-leb, ne-eqb}
 use Rattle.verdict.specs.Lists.{All, count}
 use Rattle.verdict.proofs.Elements.{map-then, map-past, count-kept}
 use Rattle.wire.specs.declared.Drive.{Drive}
 use Rattle.wire.specs.declared.Drive.the-variants.{Released}
 use Rattle.wire.specs.declared.Follower.the-variants.{Inside}
 use Rattle.wire.specs.Wire.{Party, levelOf, drivers, asBit, drivesOf, eventsAfter}
-use Rattle.wire.specs.Follower.{oneMore, headerSeen}
+use Rattle.wire.specs.Follower.{oneMore, headerSeen, answering}
 use Rattle.wire.specs.Machines.{Core, quiet}
 use Rattle.wire.proofs.Runs.{Goes, goes-nil, goes-cons}
 use Rattle.wire.proofs.Voices.{Alike, alike-cons, says, one-voice}
-use Rattle.agreement.specs.Follows.{answering, Line, Follows}
+use Rattle.agreement.specs.Follows.{Line, Follows}
 
 -- the bits seen after some more levels
 abbrev pub shown : ℕ → List Bool → ℕ
@@ -48,8 +48,8 @@ module _ {P : Type 0} {wire : Party P} {core : Core P} {line : Line P} {Good : P
   pub early : (seen bits w : ℕ) (p : P) → seen ≤ 14 → wire .drives (line .put (Inside seen bits) w p) ≡ Released
   unfolding answering
   early seen bits w p few =
-      laws .clocked .inside-drives seen bits w p (omega arith)
-      ∙ rw (le-leb seen 14 few) (either (core .answers (headerSeen seen bits) p))
+      laws .driving .inside seen bits w p
+      ∙ rw (ne-eqb seen 15 (omega arith), lt-leb 16 seen (omega arith)) (either (core .answers (headerSeen seen bits) p))
     where
       either : (b : Bool) → cond b Released Released ≡ Released
       either true = refl

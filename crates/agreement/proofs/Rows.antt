@@ -26,22 +26,35 @@ use Rattle.agreement.proofs.Phase.{shown, hears}
 use Rattle.agreement.proofs.Seen.{hears-row, shown-row}
 
 -- the steps of op, address and register, and those of turnaround and data
+abbrev headerRows : Transaction → List (List ℕ)
+headerRows t = opSteps (isRead t) ∷ bits 5 (t .address) ∷ bits 5 (t .register) ∷ []
+
+abbrev frameRows : Transaction → List (List ℕ)
+frameRows t = turnaroundSteps (isRead t) ∷ dataSteps (isRead t) (t .«data») ∷ []
+
 abbrev pub headerRow : Transaction → List ℕ
-headerRow t = join (opSteps (isRead t) ∷ bits 5 (t .address) ∷ bits 5 (t .register) ∷ [])
+headerRow t = join (headerRows t)
 
 abbrev pub frameRow : Transaction → List ℕ
-frameRow t = join (turnaroundSteps (isRead t) ∷ dataSteps (isRead t) (t .«data») ∷ [])
+frameRow t = join (frameRows t)
 
 -- what the station does, row by row
-pub station-rows : (m : ℕ) (t : Transaction) → stationFor m t ≡ (replicate m (Driven true) ++ (Driven false ∷ Driven true ∷ [])) ++ (map stationDrive (headerRow t) ++ (map stationDrive (frameRow t) ++ (Released ∷ [])))
+pub station-rows : (m : ℕ) (t : Transaction) →
+    stationFor m t ≡ (replicate m (Driven true) ++ (Driven false ∷ Driven true ∷ [])) ++ (map stationDrive (headerRow t) ++ (map stationDrive (frameRow t) ++ (Released ∷ [])))
 unfolding join
-station-rows m t =
-    let turn = turnaroundSteps (isRead t) ∷ dataSteps (isRead t) (t .«data») ∷ [] in
-    let op = opSteps (isRead t) ∷ bits 5 (t .address) ∷ bits 5 (t .register) ∷ [] in
-    let start = replicate m driveOne ∷ startSteps ∷ [] in
-    let rows : join (table m t) ≡ (replicate m driveOne ++ startSteps) ++ (headerRow t ++ (frameRow t ++ (release ∷ []))) = join-append start (op ++ (turn ++ ((release ∷ []) ∷ []))) ∙ ap (λ xs. join start ++ xs) (join-append op (turn ++ ((release ∷ []) ∷ [])) ∙ ap (λ xs. join op ++ xs) (join-append turn ((release ∷ []) ∷ []))) in
-    ap (map stationDrive) rows ∙ simp (map-append, ones-driven)
+station-rows m t = ap (map stationDrive) rows ∙ simp (map-append, ones-driven)
   where
+    start : List (List ℕ)
+    start = replicate m driveOne ∷ startSteps ∷ []
+
+    idle : List (List ℕ)
+    idle = (release ∷ []) ∷ []
+
+    rows : join (table m t) ≡ (replicate m driveOne ++ startSteps) ++ (headerRow t ++ (frameRow t ++ (release ∷ [])))
+    rows =
+        join-append start (headerRows t ++ (frameRows t ++ idle))
+        ∙ ap (λ xs. join start ++ xs) (join-append (headerRows t) (frameRows t ++ idle) ∙ ap (λ xs. headerRow t ++ xs) (join-append (frameRows t) idle))
+
     ones-driven : (m : ℕ) → map stationDrive (replicate m driveOne) ≡ replicate m (Driven true)
     ones-driven zero = refl
     ones-driven (suc m) = ap (λ ds. Driven true ∷ ds) (ones-driven m)
@@ -50,7 +63,7 @@ module _ (t : Transaction) where
   pub row-small : All (λ b. b < 2) (headerRow t)
   unfolding join
   row-small =
-      all-append (λ b. b < 2) (opSteps (isRead t)) (join (bits 5 (t .address) ∷ bits 5 (t .register) ∷ [])) (op-small (isRead t))
+      all-append (λ b. b < 2) (opSteps (isRead t)) (bits 5 (t .address) ++ (bits 5 (t .register) ++ [])) (op-small (isRead t))
       (all-append (λ b. b < 2) (bits 5 (t .address)) (bits 5 (t .register) ++ []) (bits-small 5 (t .address))
       (all-append (λ b. b < 2) (bits 5 (t .register)) [] (bits-small 5 (t .register)) tt))
     where
@@ -78,9 +91,9 @@ module _ (t : Transaction) (accepted : Accepted t) where
   row-says : shiftIn 1 (headerRow t) ≡ headerWord
   unfolding join
   row-says =
-      rw (shiftIn-append 1 (opSteps (isRead t)) (bits 5 (t .address) ++ (bits 5 (t .register) ++ [])))
-      (simp (shiftIn-append, shiftIn-bits, append-nil)
-      (omega (arith, op-is, mod-eq-of-lt (accepted .address), mod-eq-of-lt (accepted .register))))
+      shiftIn-append 1 (opSteps (isRead t)) (bits 5 (t .address) ++ (bits 5 (t .register) ++ []))
+      ∙ simp (shiftIn-append, shiftIn-bits, append-nil)
+      (omega (arith, op-is, mod-eq-of-lt (accepted .address), mod-eq-of-lt (accepted .register)))
 
   pub header-long : length (map stationDrive (headerRow t)) ≡ 12
   header-long = length-map (headerRow t) stationDrive ∙ row-long t

@@ -8,14 +8,13 @@ use native.Mathlib.Nat.{lt-of-lt-of-le}
 use lib.ListN.{length, replicate}
 use lib.Dec.{eqb}
 use lib.Pow.{pow-mono, shr-shr}
-use borrow.Author.Tests.{lt-leb, ne-eqb}
+use borrow.Author.Tests.{le-leb, ne-eqb}
 use Rattle.verdict.specs.Bits.{bit, bits, shiftIn}
 use Rattle.verdict.specs.Lists.{All}
 use Rattle.wire.specs.declared.Drive.{Drive}
 use Rattle.wire.specs.declared.Drive.the-variants.{Released, Driven}
 use Rattle.wire.specs.Wire.{drivers, stationDrive}
-use Rattle.wire.specs.Follower.{oneMore, headerOf, headerSeen}
-use Rattle.agreement.specs.Follows.{answering}
+use Rattle.wire.specs.Follower.{oneMore, headerOf, headerSeen, answering}
 use Rattle.agreement.specs.Levels.{ones}
 use Rattle.agreement.proofs.Phase.{shown, hears, Fits}
 
@@ -32,7 +31,7 @@ unfolding answering bits
 hears-word word n zero place few = refl
 hears-word word n (suc k) place few =
     let here : 31 - n ≡ k = omega arith in
-    rw (lt-leb n 14 (omega arith), ne-eqb n 15 (omega arith), here)
+    rw (ne-eqb n 15 (omega arith), le-leb 16 n (omega arith), le-leb n 31 (omega arith), here)
     (ap₂ (λ l ls. l ∷ ls) (and-true (eqb (bit k word) 1)) (hears-word word (suc n) k (omega arith) (omega arith)))
 
 -- one bit more: the bits before it are as they were

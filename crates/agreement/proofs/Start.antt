@@ -18,7 +18,7 @@ use Rattle.wire.specs.Machines.{Core, quiet}
 use Rattle.wire.proofs.Runs.{Goes, goes-nil, goes-cons, goes-append, goes-to}
 use Rattle.wire.proofs.Quiet.{quiet-map}
 use Rattle.wire.proofs.Voices.{Alike, alike-cons, one-voice}
-use Rattle.agreement.specs.Follows.{Line, Follows, Keeps, Ready}
+use Rattle.agreement.specs.Follows.{Line, Follows, Keeps, Waits, Ready}
 use Rattle.agreement.proofs.Phase.{events-of, early}
 
 at-most-one : (d : Drive) → drivers (d ∷ Released ∷ []) ≤ 1
@@ -58,31 +58,35 @@ module _ {P : Type 0} {wire : Party P} {core : Core P} {line : Line P} {Good : P
       let past = quiet-map core (line .put f w) (λ c. laws .keeps-events c .put f w) c n in
       sym (past ps) ∙ ap (quiet core c n) same ∙ past qs
 
-  -- events leave a party ready
+  -- what effects and events leave: follower and captured word; so a party that waits, waiting, and one that is ready, ready
+  module _ (effect : P → P) (keeps : Keeps wire core line Good effect) (p : P) where
+    untouched : effect p ≡ line .put (line .follower p) (line .captured p) (effect p)
+    untouched = ap effect (sym (laws .fields .same p)) ∙ keeps .put (line .follower p) (line .captured p) p
+
+    pub follower-kept : line .follower (effect p) ≡ line .follower p
+    follower-kept = ap (line .follower) untouched ∙ laws .fields .follower _ _ (effect p)
+
+    pub captured-kept : line .captured (effect p) ≡ line .captured p
+    captured-kept = ap (line .captured) untouched ∙ laws .fields .captured _ _ (effect p)
+
+    pub waits-kept : Waits line Good p → Waits line Good (effect p)
+    waits-kept w = record { good = keeps .good p (w .good); ones = w .ones; hunts = follower-kept ∙ w .hunts; empty = captured-kept ∙ w .empty }
+
   ready-kept : (effect : P → P) → Keeps wire core line Good effect → (m : ℕ) (p : P) → Ready line Good m p → Ready line Good m (effect p)
-  ready-kept effect keeps m p r =
-      let untouched : effect p ≡ line .put (line .follower p) (line .captured p) (effect p) = ap effect (sym (laws .fields .same p)) ∙ keeps .put (line .follower p) (line .captured p) p in
-      record {
-        waits = record {
-          good = keeps .good p (r .waits .good);
-          ones = r .waits .ones;
-          hunts = ap (line .follower) untouched ∙ laws .fields .follower _ _ (effect p) ∙ r .waits .hunts;
-          empty = ap (line .captured) untouched ∙ laws .fields .captured _ _ (effect p) ∙ r .waits .empty;
-        };
-        enough = rw (keeps .enough p (r .waits .good)) (r .enough);
-      }
+  unfolding waits-kept
+  ready-kept effect keeps m p r = record { waits = waits-kept effect keeps p (r .waits); enough = rw (keeps .enough p (r .waits .good)) (r .enough) }
 
   module _ (m : ℕ) (p : P) (r : Ready line Good m p) where
     ready-is : p ≡ line .put (Hunting (r .waits .ones)) 0 p
     ready-is = sym (laws .fields .same p) ∙ ap₂ (λ f w. line .put f w p) (r .waits .hunts) (r .waits .empty)
 
     ready-silent : wire .drives p ≡ Released
-    ready-silent = ap (wire .drives) ready-is ∙ laws .clocked .hunting-drives (r .waits .ones) 0 p
+    ready-silent = ap (wire .drives) ready-is ∙ laws .driving .hunting (r .waits .ones) 0 p
 
     ready-samples : (level : Bool) → wire .samples level p ≡ line .put (follow (line .enough p) level (line .follower p)) 0 p
     ready-samples level =
         ap (wire .samples level) ready-is
-        ∙ laws .clocked .hunting level (r .waits .ones) p
+        ∙ laws .sampling .hunting level (r .waits .ones) p
         ∙ ap (λ f. line .put (follow (line .enough p) level f) 0 p) (sym (r .waits .hunts))
 
   -- what a 1 makes of a party that hunts
@@ -127,7 +131,7 @@ module _ {P : Type 0} {wire : Party P} {core : Core P} {line : Line P} {Good : P
       (put-clock (Driven true) true (Inside 1 0) (Inside 2 1) 0 0 (suc c) (map (core .happens (suc c)) ps)
       (λ p. early laws 1 0 0 p (omega arith))
       refl
-      (λ p. laws .clocked .inside true 1 0 0 p (omega arith) (omega arith))))
+      (λ p. laws .sampling .inside true 1 0 0 p (omega arith) (omega arith))))
   starts (suc m) c c′ ps clocks ready =
       goes-append wire
       (silent-clock (Driven true) true nearer c ps

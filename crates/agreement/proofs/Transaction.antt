@@ -18,7 +18,7 @@ use Rattle.frame.specs.Answers.{sent, answered, silent, answerTo}
 use Rattle.wire.specs.declared.Drive.{Drive}
 use Rattle.wire.specs.declared.Drive.the-variants.{Released, Driven}
 use Rattle.wire.specs.Wire.{Party, asBit, stationDrive}
-use Rattle.wire.specs.Machines.{Core, headerFor, quiet, beforeReads, beforeWrites, clocksWith, readOf, plainAnswer, afterRead, afterWrite, plainAfter}
+use Rattle.wire.specs.Machines.{Core, headerFor, quiet, beforeReads, beforeWrites, clocksWith, readOf, plainAnswer, leftByRead, leftByWrite, plainAfter}
 use Rattle.wire.proofs.Runs.{Goes, goes-as, goes-to}
 use Rattle.wire.proofs.Quiet.{quiet-append}
 use Rattle.agreement.specs.Follows.{Line, Follows, Ready, OneAnswers}
@@ -65,7 +65,7 @@ module _ {P : Type 0} {wire : Party P} {core : Core P} {line : Line P} {Good : P
       (omega arith)
       (ap (λ w. map (rest line) (leaves w)) (ap (λ ls. shown (headerWord t accepted) ls % 2 ^ 16) levels ∙ says))
 
-  read-transacts : isRead t ≡ true → Transacts (readOf core t (atHeader core m t c ps)) (afterRead core m t c ps)
+  read-transacts : isRead t ≡ true → Transacts (readOf core t (atHeader core m t c ps)) (leftByRead core m t c ps)
   unfolding join headed framed
   read-transacts read =
       goes-to wire
@@ -75,7 +75,7 @@ module _ {P : Type 0} {wire : Party P} {core : Core P} {line : Line P} {Good : P
       (ap (map (rest line)) (acted _))
     where
       -- the frame's end does nothing, so its clocks are all quiet
-      acted : (word : ℕ) → leaves word ≡ afterRead core m t c ps
+      acted : (word : ℕ) → leaves word ≡ leftByRead core m t c ps
       acted word =
           let left : 18 + 2 ≡ clocksWith m - beforeReads m = omega arith in
           let after : List P = headed core m t c ps in
@@ -83,7 +83,7 @@ module _ {P : Type 0} {wire : Party P} {core : Core P} {line : Line P} {Good : P
           ∙ sym (quiet-append core 18 2 (c + beforeReads m) (c + beforeWrites m) after (omega arith))
           ∙ ap (λ k. quiet core (c + beforeReads m) k after) left
 
-  write-transacts : isRead t ≡ false → Transacts (answerTo t sent (t .«data»)) (afterWrite core m t c ps)
+  write-transacts : isRead t ≡ false → Transacts (answerTo t sent (t .«data»)) (leftByWrite core m t c ps)
   unfolding join headed framed shiftIn
   write-transacts write =
       goes-to wire
@@ -105,7 +105,9 @@ module _ {P : Type 0} {wire : Party P} {core : Core P} {line : Line P} {Good : P
       small = (omega arith, (omega arith, bits-small 16 (t .«data»)))
 
       nobody : reading .someone ≡ false
-      nobody = unanswered (reading .someone) (sym (count-none (core .answers (headerFor t)) (atHeader core m t c ps) (λ p. laws .write-unanswered (headerFor t) p op)) ∙ reading .voices)
+      nobody =
+          unanswered (reading .someone)
+          (sym (count-none (core .answers (headerFor t)) (atHeader core m t c ps) (λ p. laws .write-unanswered (headerFor t) p op)) ∙ reading .voices)
 
       -- the last sixteen bits seen are the data
       says : shown (headerWord t accepted) (ones row) % 2 ^ 16 ≡ t .«data»
@@ -115,7 +117,7 @@ module _ {P : Type 0} {wire : Party P} {core : Core P} {line : Line P} {Good : P
           omega (arith, accepted .word)
 
       -- the header does nothing, so its clocks are all quiet
-      acted : leaves (t .«data») ≡ afterWrite core m t c ps
+      acted : leaves (t .«data») ≡ leftByWrite core m t c ps
       acted =
           let all : beforeReads m + 18 ≡ beforeWrites m = omega arith in
           let left : 2 ≡ clocksWith m - beforeWrites m = omega arith in
@@ -127,7 +129,7 @@ module _ {P : Type 0} {wire : Party P} {core : Core P} {line : Line P} {Good : P
   pub transaction-runs : Transacts (plainAnswer core m t c ps) (plainAfter core m t c ps)
   transaction-runs = go (isRead t) refl
     where
-      go : (b : Bool) → isRead t ≡ b → Transacts (cond b (readOf core t (atHeader core m t c ps)) (answerTo t sent (t .«data»))) (cond b (afterRead core m t c ps) (afterWrite core m t c ps))
+      go : (b : Bool) → isRead t ≡ b → Transacts (cond b (readOf core t (atHeader core m t c ps)) (answerTo t sent (t .«data»))) (cond b (leftByRead core m t c ps) (leftByWrite core m t c ps))
       go true read = read-transacts read
       go false write = write-transacts write
 

@@ -14,6 +14,5 @@ pub mod Keeping
 pub mod Lines
 pub mod NewBits
 pub mod Outside
-pub mod Registers32
 pub mod Typing
 pub mod Words

@@ -1,4 +1,4 @@
--- Rows of bits: how long they are, what stands where, and that a number is what its bits say.
+-- Rows of bits: how long they are, what stands where, and what they say.
 use Prim.Native.Nat.{ℕ, zero, suc, _+_, _*_, _-_, _%_, _^_, _<_}
 use mathlib.Core.Path.{_≡_, refl, ap, _∙_}
 use mathlib.Core.List.{List, [], _∷_, _++_}

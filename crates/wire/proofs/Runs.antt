@@ -11,14 +11,16 @@ use Rattle.wire.specs.declared.Drive.{Drive}
 use Rattle.wire.specs.Wire.{Party, levelOf, drivers, drivesOf, eventsAfter, runs, driven}
 
 module _ {P : Type 0} (party : Party P) where
-  pub runs-append : (a b : List Drive) (c c′ : ℕ) (ps : List P) → c′ ≡ c + length a → runs party (a ++ b) c ps ≡ runs party b c′ (runs party a c ps)
+  pub runs-append : (a b : List Drive) (c c′ : ℕ) (ps : List P) → c′ ≡ c + length a →
+      runs party (a ++ b) c ps ≡ runs party b c′ (runs party a c ps)
   unfolding runs
   runs-append [] b c c′ ps e =
       let here : c ≡ c′ = omega arith in
       ap (λ k. runs party b k ps) here
   runs-append (d ∷ a) b c c′ ps e = runs-append a b (suc c) c′ _ (omega arith)
 
-  pub driven-append : (a b : List Drive) (c c′ : ℕ) (ps : List P) → c′ ≡ c + length a → driven party (a ++ b) c ps ≡ driven party a c ps ++ driven party b c′ (runs party a c ps)
+  pub driven-append : (a b : List Drive) (c c′ : ℕ) (ps : List P) → c′ ≡ c + length a →
+      driven party (a ++ b) c ps ≡ driven party a c ps ++ driven party b c′ (runs party a c ps)
   unfolding runs driven
   driven-append [] b c c′ ps e =
       let here : c ≡ c′ = omega arith in
@@ -38,7 +40,9 @@ module _ {P : Type 0} (party : Party P) where
     goes-nil = record { after = refl; levels-are = refl; alone = tt; ends = omega arith }
 
     -- one clock, then the rest
-    pub goes-cons : {d : Drive} {level : Bool} {ds : List Drive} {levels : List Bool} {c′ : ℕ} {qs rs : List P} → levelOf (drivesOf party d ps) ≡ level → drivers (drivesOf party d ps) ≤ 1 → eventsAfter party (suc c) (map (party .samples level) ps) ≡ qs → Goes ds (suc c) qs levels c′ rs → Goes (d ∷ ds) c ps (level ∷ levels) c′ rs
+    pub goes-cons : {d : Drive} {level : Bool} {ds : List Drive} {levels : List Bool} {c′ : ℕ} {qs rs : List P} →
+        levelOf (drivesOf party d ps) ≡ level → drivers (drivesOf party d ps) ≤ 1 → eventsAfter party (suc c) (map (party .samples level) ps) ≡ qs →
+        Goes ds (suc c) qs levels c′ rs → Goes (d ∷ ds) c ps (level ∷ levels) c′ rs
     unfolding runs driven
     goes-cons {d} {ds = ds} at alone next rest =
         let here : eventsAfter party (suc c) (map (party .samples (levelOf (drivesOf party d ps))) ps) ≡ _ = ap (λ l. eventsAfter party (suc c) (map (party .samples l) ps)) at ∙ next in
@@ -50,7 +54,8 @@ module _ {P : Type 0} (party : Party P) where
         }
 
     -- one phase, then the next
-    pub goes-append : {a b : List Drive} {la lb : List Bool} {c′ c″ : ℕ} {qs rs : List P} → Goes a c ps la c′ qs → Goes b c′ qs lb c″ rs → Goes (a ++ b) c ps (la ++ lb) c″ rs
+    pub goes-append : {a b : List Drive} {la lb : List Bool} {c′ c″ : ℕ} {qs rs : List P} →
+        Goes a c ps la c′ qs → Goes b c′ qs lb c″ rs → Goes (a ++ b) c ps (la ++ lb) c″ rs
     goes-append {a} {b} {c′} {qs} first then =
         let all : driven party (a ++ b) c ps ≡ driven party a c ps ++ driven party b c′ qs = driven-append a b c c′ ps (first .ends) ∙ ap (λ rs. driven party a c ps ++ driven party b c′ rs) (first .after) in
         record {
@@ -61,7 +66,8 @@ module _ {P : Type 0} (party : Party P) where
         }
 
     -- the same run in other words
-    pub goes-as : {a b : List Drive} {la lb : List Bool} {c′ c″ : ℕ} {qs rs : List P} → Goes a c ps la c′ qs → a ≡ b → la ≡ lb → c′ ≡ c″ → qs ≡ rs → Goes b c ps lb c″ rs
+    pub goes-as : {a b : List Drive} {la lb : List Bool} {c′ c″ : ℕ} {qs rs : List P} →
+        Goes a c ps la c′ qs → a ≡ b → la ≡ lb → c′ ≡ c″ → qs ≡ rs → Goes b c ps lb c″ rs
     goes-as {a} run drives levels clock parties =
         record {
           after = ap (λ ds. runs party ds c ps) (sym drives) ∙ run .after ∙ parties;

@@ -1,8 +1,11 @@
 -- Document 01, "The PHY's follower".
-use Prim.Native.Nat.{ℕ, zero, suc, _+_, _*_, _-_, _/_, _%_, _^_, min}
+use Prim.Native.Nat.{ℕ, _+_, _*_, _-_, _/_, _%_, _^_, min}
 use mathlib.Core.Bool.{Bool, true, false, not, _&&_, cond}
 use lib.Dec.{leb, eqb}
+use Rattle.verdict.specs.Bits.{bit}
 use Rattle.frame.specs.Frame.{headerBits, frameBits}
+use Rattle.wire.specs.declared.Drive.{Drive}
+use Rattle.wire.specs.declared.Drive.the-variants.{Released, Driven}
 use Rattle.wire.specs.declared.Follower.{Follower}
 use Rattle.wire.specs.declared.Follower.the-variants.{Hunting, Inside}
 use Rattle.wire.specs.declared.Header.{Header}
@@ -40,3 +43,10 @@ headerOf bits = record { op = bits / 2 ^ 10 % 4; address = bits / 2 ^ 5 % 32; re
 -- the header of a frame with at least 14 bits seen
 abbrev pub headerSeen : ℕ → ℕ → Header
 headerSeen seen bits = headerOf (bits / 2 ^ (seen - headerBits))
+
+-- what a party that answers a word drives with so many bits seen: "released for bit 15, drives 0 for bit 16, the word for bits 17 to 32"
+unfoldable pub answering : ℕ → ℕ → Drive
+answering seen word =
+    cond (eqb seen (headerBits + 1)) (Driven false)
+    (cond (leb (headerBits + 2) seen && leb seen (frameBits - 1)) (Driven (eqb (bit (frameBits - 1 - seen) word) 1))
+    Released)

@@ -57,14 +57,14 @@ module _ {P : Type 0} (core : Core P) where
     abbrev pub plainAnswer : Answer
     plainAnswer = cond (isRead t) (readOf t (quiet c (beforeReads m) ps)) (answerTo t sent (t .«data»))
 
-    abbrev pub afterRead : List P
-    afterRead = acting (core .afterHeader (headerFor t)) c (beforeReads m) (clocksWith m - beforeReads m) ps
+    abbrev pub leftByRead : List P
+    leftByRead = acting (core .afterHeader (headerFor t)) c (beforeReads m) (clocksWith m - beforeReads m) ps
 
-    abbrev pub afterWrite : List P
-    afterWrite = acting (core .afterFrame (headerFor t) (t .«data»)) c (beforeWrites m) (clocksWith m - beforeWrites m) ps
+    abbrev pub leftByWrite : List P
+    leftByWrite = acting (core .afterFrame (headerFor t) (t .«data»)) c (beforeWrites m) (clocksWith m - beforeWrites m) ps
 
     abbrev pub plainAfter : List P
-    plainAfter = cond (isRead t) afterRead afterWrite
+    plainAfter = cond (isRead t) leftByRead leftByWrite
 
   -- a list after c clocks: its answers, and the parties after it
   unfoldable pub plainAnswers : ℕ → ℕ → List Transaction → ℕ → List P → List Answer
