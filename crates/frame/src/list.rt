@@ -5,6 +5,12 @@ pub struct Transaction {
     pub data: u16,
 }
 
+impl Transaction {
+    pub const WRITE: u8 = 1;
+
+    pub const READ: u8 = 2;
+}
+
 pub enum Parse {
     Good(Transaction),
     Bad(u8),

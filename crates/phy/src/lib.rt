@@ -1,5 +1,15 @@
 // One transceiver (document 01, "The PHY's follower" and "Registers"). It goes by value: each method hands the next PHY
 // back.
+mod clock;
+mod control;
+mod events;
+mod registers;
+mod status;
+
+pub use control::Control;
+pub use events::Event;
+pub use status::ExtendedStatus;
+pub use status::Status;
 use wire::Follower;
 
 pub struct Phy {

@@ -1,0 +1,18 @@
+-- Registers are 0 to 31: what is implemented is one of them.
+use Prim.Native.Nat.{ℕ, _<_}
+use mathlib.Core.Path.{_≡_, refl}
+use mathlib.Core.Bool.{Bool, true, false, _&&_, false≢true}
+use lib.Dec.{ltb}
+use borrow.Author.Tests.{ltb-true}
+use Rattle.phy.specs.declared.Phy.{Phy}
+use Rattle.phy.specs.Abilities.{one}
+use Rattle.phy.specs.Registers.{implements}
+
+pub implemented-below : (r : ℕ) (phy : Phy) (other : Bool) → (implements r phy && other) ≡ true → r < 32
+unfolding implements
+implemented-below r phy other h =
+    ltb-true r 32 (first (ltb r 32) (one r (phy .implemented)) (first (ltb r 32 && one r (phy .implemented)) other h))
+  where
+    first : (a b : Bool) → (a && b) ≡ true → a ≡ true
+    first true b h = refl
+    first false b h = h

@@ -1,0 +1,203 @@
+-- What every effect and every clock keeps of a PHY: its record, `enough`, whom it answers, its types.
+use Prim.Native.Nat.{ℕ, _+_, _*_, _%_, _^_, _≤_, _<_, min}
+use mathlib.Core.Path.{_≡_, refl, sym, ap, subst, _∙_}
+use mathlib.Core.Bool.{Bool, true, false, not, _&&_, cond}
+use mathlib.Core.List.{List}
+use lib.ListN.{getD}
+use native.Mathlib.Omega.{arith}
+use lib.Dec.{leb, eqb}
+use borrow.Author.Tests.{leb-false}
+use Rattle.verdict.specs.Bits.{bit}
+use Rattle.wire.specs.declared.Follower.{Follower}
+use Rattle.wire.specs.declared.Follower.the-variants.{Hunting, Inside}
+use Rattle.wire.specs.declared.Header.{Header}
+use Rattle.wire.specs.Follower.{hunt, oneMore, inside, follow, headerSeen, afterWrongStart}
+use Rattle.phy.specs.declared.Phy.{Phy}
+use Rattle.phy.specs.Abilities.{one}
+use Rattle.phy.specs.Fields.{registerOf, defaultOf, recordOf, withBank, withLine}
+use Rattle.phy.specs.Registers.{implements}
+use Rattle.phy.specs.Clock.{fresh, enough, answers, stores, word, afterHeader, afterFrame, actsIn, acts, atHeader, clock}
+use Rattle.phy.specs.Typed.{Words, TypedFollower, Typed, StatusFixed, Steady}
+use Rattle.phy.proofs.Clocks.{clock-by}
+use Rattle.phy.proofs.Followers.{follow-keeps}
+use Rattle.phy.proofs.Effects.{Effect, nothing, afterHeader-effect, afterFrame-effect}
+
+-- a PHY accepts at most 32 ones as enough, and at least 1
+pub enough-most : (phy : Phy) → enough phy ≤ 32
+unfolding enough
+enough-most phy = go (one 6 (registerOf 1 phy))
+  where
+    go : (t : Bool) → cond t 1 32 ≤ 32
+    go true = omega arith
+    go false = omega arith
+
+-- where register 1 is fixed, the default of 1.6 decides what is enough
+pub enough-fixed : (phy : Phy) → StatusFixed phy → enough phy ≡ cond (one 6 (defaultOf 1 phy)) 1 32
+unfolding enough
+enough-fixed phy fixed =
+    ap (λ (b : ℕ). cond (eqb b 1) 1 32) (fixed 6 (omega arith) (omega arith) (omega arith) (omega arith) (omega arith))
+
+typed-as : (registers : List ℕ) (link : Bool) (follower : Follower) (captured : ℕ) (q : Phy) → Typed q
+    → Words registers → TypedFollower follower → captured < 2 ^ 16 → Typed (withLine follower captured (withBank registers link q))
+typed-as registers link follower captured q t words tf small =
+    record {
+      address = t .address;
+      implemented = t .implemented;
+      defaults = t .defaults;
+      masks = t .masks;
+      registers = words;
+      follower = tf;
+      captured = small;
+    }
+
+-- Of an effect
+module _ {f : Phy → Phy} (effect : Effect f) (phy : Phy) where
+  -- an event or an effect never touches the follower nor the captured word
+  pub keeps-follower : f phy .follower ≡ phy .follower
+  keeps-follower = ap (λ p. p .follower) (effect .bank phy)
+
+  pub keeps-captured : f phy .captured ≡ phy .captured
+  keeps-captured = ap (λ p. p .captured) (effect .bank phy)
+
+  -- nor address, implemented mask, defaults, write masks
+  pub keeps-record : recordOf (f phy) ≡ recordOf phy
+  keeps-record = ap recordOf (effect .bank phy)
+
+  -- so the PHY answers and stores as before
+  pub keeps-answers : (header : Header) → answers header (f phy) ≡ answers header phy
+  unfolding answers implements
+  keeps-answers header = ap (answers header) (effect .bank phy)
+
+  pub keeps-stores : (header : Header) → stores header (f phy) ≡ stores header phy
+  unfolding stores
+  keeps-stores header = ap (stores header) (effect .bank phy)
+
+  -- and as many ones are enough, where 1.6 stands at default
+  pub keeps-enough : StatusFixed phy → enough (f phy) ≡ enough phy
+  keeps-enough fixed =
+      enough-fixed (f phy) (effect .fixed phy fixed)
+      ∙ ap (λ p. cond (one 6 (defaultOf 1 p)) 1 32) (effect .bank phy)
+      ∙ sym (enough-fixed phy fixed)
+
+  -- and every field stays within its type
+  pub keeps-typed : Typed phy → Typed (f phy)
+  keeps-typed t =
+      subst Typed (sym (effect .bank phy))
+      (typed-as (f phy .registers) (f phy .link) (phy .follower) (phy .captured) phy t
+      (effect .typed phy (t .defaults) (t .registers)) (t .follower) (t .captured))
+
+  -- what it rests on it keeps
+  pub keeps-steady : Steady phy → Steady (f phy)
+  keeps-steady s =
+      record {
+        defaults = subst Words (sym (ap (λ p. p .defaults) (effect .bank phy))) (s .defaults);
+        registers = effect .typed phy (s .defaults) (s .registers);
+        fixed = effect .fixed phy (s .fixed);
+      }
+
+-- a follower and a captured word of any kind leave that too
+pub line-steady : (f : Follower) (w : ℕ) (phy : Phy) → Steady phy → Steady (withLine f w phy)
+line-steady f w phy s = record { defaults = s .defaults; registers = s .registers; fixed = s .fixed }
+
+pub word-small : (header : Header) (phy : Phy) → Steady phy → word header phy < 2 ^ 16
+word-small header phy s = s .registers .small (header .register)
+
+-- a clock is the follower's move, a captured word, and an effect
+pub record Clocked (level : Bool) (phy : Phy) : Type 0 where
+  pub does : Phy → Phy
+  pub effect : Effect does
+  pub captured : ℕ
+  pub small : Typed phy → captured < 2 ^ 16
+  pub is : clock level phy ≡ withLine (follow (enough phy) level (phy .follower)) captured (does phy)
+
+pub clocked : (level : Bool) (phy : Phy) → Clocked level phy
+unfolding clock acts atHeader
+clocked level phy = go (phy .follower) refl
+  where
+    next : Follower
+    next = follow (enough phy) level (phy .follower)
+
+    go : (f : Follower) → phy .follower ≡ f → Clocked level phy
+    go (Hunting ones) now =
+        record { does = λ p. p; effect = nothing; captured = phy .captured; small = λ t. t .captured; is = clock-by level phy (Hunting ones) now }
+    go (Inside seen bits) now = by (eqb seen 13) (eqb seen 31) (answers header phy) refl refl refl
+      where
+        after : ℕ
+        after = oneMore bits level
+
+        header : Header
+        header = headerSeen 14 after
+
+        by : (a b own : Bool) → eqb seen 13 ≡ a → eqb seen 31 ≡ b → answers header phy ≡ own → Clocked level phy
+        by true b true e13 e31 own =
+            record {
+              does = afterHeader header;
+              effect = afterHeader-effect header;
+              captured = word header phy;
+              small = λ t. t .registers .small (header .register);
+              is = clock-by level phy (Inside seen bits) now ∙ rw (e13, own);
+            }
+        by true b false e13 e31 other =
+            record {
+              does = λ p. p;
+              effect = nothing;
+              captured = phy .captured;
+              small = λ t. t .captured;
+              is = clock-by level phy (Inside seen bits) now ∙ rw (e13, other);
+            }
+        by false true own e13 e31 o =
+            record {
+              does = afterFrame (headerSeen 32 after) (after % 2 ^ 16);
+              effect = afterFrame-effect (headerSeen 32 after) (after % 2 ^ 16);
+              captured = 0;
+              small = λ t. omega arith;
+              is = clock-by level phy (Inside seen bits) now ∙ rw (e13, e31);
+            }
+        by false false own e13 e31 o =
+            record {
+              does = λ p. p;
+              effect = nothing;
+              captured = phy .captured;
+              small = λ t. t .captured;
+              is = clock-by level phy (Inside seen bits) now ∙ rw (e13, e31);
+            }
+
+-- Of a clock
+module _ (level : Bool) (phy : Phy) where
+  of : Clocked level phy
+  of = clocked level phy
+
+  pub clock-record : recordOf (clock level phy) ≡ recordOf phy
+  clock-record = ap recordOf (of .is) ∙ keeps-record (of .effect) phy
+
+  pub clock-answers : (header : Header) → answers header (clock level phy) ≡ answers header phy
+  unfolding answers implements
+  clock-answers header = ap (answers header) (of .is) ∙ keeps-answers (of .effect) phy header
+
+  pub clock-enough : StatusFixed phy → enough (clock level phy) ≡ enough phy
+  unfolding enough
+  clock-enough fixed = ap enough (of .is) ∙ keeps-enough (of .effect) phy fixed
+
+  pub clock-fixed : StatusFixed phy → StatusFixed (clock level phy)
+  clock-fixed fixed = subst StatusFixed (sym (of .is)) (of .effect .fixed phy fixed)
+
+  pub clock-typed : Typed phy → Typed (clock level phy)
+  clock-typed t =
+      let after = keeps-typed (of .effect) phy t in
+      subst Typed (sym (of .is))
+      (typed-as (of .does phy .registers) (of .does phy .link) _ (of .captured) (of .does phy) after (after .registers)
+      (follow-keeps TypedFollower (omega arith) (omega arith, omega arith) (λ ones. omega arith) more (enough phy) level (phy .follower) (t .follower))
+      (of .small t))
+    where
+      shifted : (bits : ℕ) (l : Bool) → oneMore bits l < 2 ^ 32
+      shifted bits true = omega arith
+      shifted bits false = omega arith
+
+      more : (l : Bool) (seen bits : ℕ) → TypedFollower (Inside seen bits) → seen < 31 → (not l && eqb seen 1) ≡ false → TypedFollower (Inside (seen + 1) (oneMore bits l))
+      more l seen bits p h right = (omega arith, shifted bits l)
+
+-- A fresh PHY
+pub fresh-typed : (address implemented : ℕ) (defaults masks : List ℕ) → address < 2 ^ 8 → implemented < 2 ^ 32
+    → Words defaults → Words masks → Typed (fresh address implemented defaults masks)
+fresh-typed address implemented defaults masks a i d m =
+    record { address = a; implemented = i; defaults = d; masks = m; registers = d; follower = omega arith; captured = omega arith }

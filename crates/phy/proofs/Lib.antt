@@ -1,0 +1,12 @@
+pub mod Words
+pub mod NewBits
+pub mod Implemented
+pub mod Clocks
+pub mod Held
+pub mod Headers
+pub mod Effects
+pub mod Lines
+pub mod Keeping
+pub mod Followers
+pub mod Examples
+pub mod Typing
