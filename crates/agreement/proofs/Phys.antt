@@ -1,0 +1,67 @@
+-- A PHY follows frames, whatever its events are, if they are effects: each law is one that the PHY's crate shows.
+use Prim.Native.Nat.{ℕ, _<_}
+use mathlib.Core.Path.{_≡_, refl}
+use native.Mathlib.Omega.{arith}
+use Rattle.wire.specs.Follower.{answering}
+use Rattle.phy.specs.declared.Phy.{Phy}
+use Rattle.phy.specs.Registers.{implements}
+use Rattle.phy.specs.Clock.{enough, answers, afterHeader, afterFrame, phyParty, phyCore}
+use Rattle.phy.specs.Typed.{Steady}
+use Rattle.phy.proofs.Effects.{Effect, afterHeader-effect, afterFrame-effect}
+use Rattle.phy.proofs.Headers.{answers-reads-only, write-header, read-frame}
+use Rattle.phy.proofs.Keeping.{enough-most, keeps-answers, keeps-enough, keeps-steady, line-steady}
+use Rattle.phy.proofs.Lines.{drives-line-hunting, drives-line, clock-hunting, clock-inside, clock-header, clock-frame}
+use Rattle.agreement.specs.Follows.{Fields, Clocked, Keeps, Follows}
+use Rattle.agreement.specs.Phys.{phyLine}
+
+module _ (happens : ℕ → Phy → Phy) (events : (c : ℕ) → Effect (happens c)) where
+  fields : Fields (phyParty happens) (phyCore happens) phyLine Steady
+  unfolding enough answers implements
+  fields =
+      record {
+        follower = λ f w phy. refl;
+        captured = λ f w phy. refl;
+        same = λ phy. refl;
+        again = λ f g v w phy. refl;
+        good = line-steady;
+        enough = λ f w phy. refl;
+        answers = λ h f w phy. refl;
+        word = λ h f w phy. refl;
+      }
+
+  clocked : Clocked (phyParty happens) (phyCore happens) phyLine Steady
+  unfolding answering
+  clocked =
+      record {
+        hunting-drives = drives-line-hunting;
+        inside-drives = drives-line;
+        hunting = λ level ones phy. clock-hunting level ones 0 phy;
+        inside = λ level seen bits w phy before ordinary. clock-inside level seen bits w phy ordinary (omega arith);
+        header = λ level bits phy. clock-header level bits 0 phy;
+        end = clock-frame;
+      }
+
+  keeps : {f : Phy → Phy} → Effect f → Keeps (phyParty happens) (phyCore happens) phyLine Steady f
+  keeps effect =
+      record {
+        put = effect .blind;
+        good = keeps-steady effect;
+        enough = λ phy steady. keeps-enough effect phy (steady .fixed);
+        answers = λ h phy. keeps-answers effect phy h;
+      }
+
+  pub phy-follows : Follows (phyParty happens) (phyCore happens) phyLine Steady
+  phy-follows =
+      record {
+        fields = fields;
+        clocked = clocked;
+        same-events = λ c. refl;
+        keeps-header = λ h. keeps (afterHeader-effect h);
+        keeps-frame = λ h w. keeps (afterFrame-effect h w);
+        keeps-events = λ c. keeps (events c);
+        few-enough = λ phy steady. enough-most phy;
+        word-fits = λ h phy steady. steady .registers .small (h .register);
+        write-unanswered = λ h phy op. answers-reads-only h phy (λ read. omega arith);
+        write-header = write-header;
+        read-end = read-frame;
+      }
