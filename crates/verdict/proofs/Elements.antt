@@ -1,9 +1,10 @@
 -- What is said of the elements of a list (`All`, `count`), element by element.
-use Prim.Native.Nat.{suc}
+use Prim.Native.Nat.{ℕ, suc, _≤_, _<_}
 use mathlib.Core.Path.{_≡_, refl, ap₂, sym, _∙_}
 use mathlib.Core.Bool.{Bool, true, false, cond}
 use mathlib.Core.List.{List, [], _∷_, _++_, map}
 use native.Mathlib.Omega.{arith}
+use lib.ListN.{length, getD}
 use Rattle.verdict.specs.Lists.{All, count}
 
 module _ {A : Type 0} where
@@ -15,6 +16,11 @@ module _ {A : Type 0} where
   pub all-of : (Q : A → Type 0) (xs : List A) → ((x : A) → Q x) → All Q xs
   all-of Q [] h = tt
   all-of Q (x ∷ xs) h = (h x, all-of Q xs h)
+
+  -- what holds at every place
+  pub all-places : (Q : A → Type 0) (xs : List A) (d : A) → ((i : ℕ) → i < length xs → Q (getD xs i d)) → All Q xs
+  all-places Q [] d h = tt
+  all-places Q (x ∷ xs) d h = (h 0 (omega arith), all-places Q xs d (λ i within. h (suc i) (omega arith)))
 
   -- from one fact on every element to another
   pub all-then : (Q R : A → Type 0) (xs : List A) → ((x : A) → Q x → R x) → All Q xs → All R xs
@@ -73,3 +79,23 @@ module _ {A : Type 0} where
   pub count-none : (test : A → Bool) (xs : List A) → ((x : A) → test x ≡ false) → count test xs ≡ 0
   count-none test [] fails = refl
   count-none test (x ∷ xs) fails = rw (fails x) (count-none test xs fails)
+
+  -- where no place passes none is counted, and where no two places pass at most one is
+  count-zero : (test : A → Bool) (xs : List A) (d : A) → ((i : ℕ) → i < length xs → test (getD xs i d) ≡ true → ⊥) → count test xs ≡ 0
+  count-zero test [] d fails = refl
+  count-zero test (x ∷ xs) d fails = go (test x) refl (count-zero test xs d (λ i within. fails (suc i) (omega arith)))
+    where
+      go : (b : Bool) → test x ≡ b → count test xs ≡ 0 → cond b (suc (count test xs)) (count test xs) ≡ 0
+      go true e none = absurd (fails 0 (omega arith) e)
+      go false e none = none
+
+  pub count-one : (test : A → Bool) (xs : List A) (d : A) →
+      ((i j : ℕ) → i < j → j < length xs → test (getD xs i d) ≡ true → test (getD xs j d) ≡ true → ⊥) → count test xs ≤ 1
+  count-one test [] d apart = omega arith
+  count-one test (x ∷ xs) d apart = go (test x) refl (count-one test xs d (λ i j before within. apart (suc i) (suc j) (omega arith) (omega arith)))
+    where
+      go : (b : Bool) → test x ≡ b → count test xs ≤ 1 → cond b (suc (count test xs)) (count test xs) ≤ 1
+      go true e few =
+          let none : count test xs ≡ 0 = count-zero test xs d (λ j within. apart 0 (suc j) (omega arith) (omega arith) e) in
+          omega arith
+      go false e few = few
