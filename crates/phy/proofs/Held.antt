@@ -8,11 +8,12 @@ use lib.Seq.{getD-set-same}
 use borrow.Author.Tests.{ne-eqb}
 use Rattle.verdict.specs.Bits.{bit}
 use Rattle.phy.specs.declared.Phy.{Phy}
+use Rattle.phy.specs.Abilities.{one}
 use Rattle.phy.specs.Words.{setBit, clearBit}
 use Rattle.phy.specs.Fields.{registerOf}
-use Rattle.phy.specs.Registers.{implements, inReset, heldAfter, readStatus, afterRead, writeBy, afterWrite}
+use Rattle.phy.specs.Registers.{implements, inReset, masked, heldAfter, readStatus, afterRead, writeBy, afterWrite}
 use Rattle.phy.specs.Events.{event}
-use Rattle.phy.proofs.Words.{set-other, clear-other, set-same, clear-same}
+use Rattle.phy.proofs.Words.{pick-lt, set-other, clear-other, set-same, clear-same, bit-wordOf}
 
 cond-same : {A : Type 0} (t : Bool) (a : A) → cond t a a ≡ a
 cond-same true a = refl
@@ -58,3 +59,8 @@ held-others false w i n4 n2 n1 = clear-other 2 i _ n2 ∙ clear-other 1 i _ n1 �
 pub other-read : (r : ℕ) (phy : Phy) → (r ≡ 1 → ⊥) → afterRead r phy ≡ phy
 unfolding afterRead
 other-read r phy n1 = rw (ne-eqb r 1 n1)
+
+-- "Ordinary: masked bits take the data, others stay."
+pub masked-bit : (mask old word i : ℕ) → i < 16 → bit i (masked mask old word) ≡ cond (one i mask) (bit i word) (bit i old)
+unfolding masked
+masked-bit mask old word = bit-wordOf 16 (λ j. cond (one j mask) (bit j word) (bit j old)) (pick-lt mask old word)

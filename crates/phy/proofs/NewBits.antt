@@ -1,15 +1,16 @@
 -- The new bits of register 0 are bits, and the speed that two bits ask for is told by the mask of both.
-use Prim.Native.Nat.{ℕ, zero, suc, _+_, _*_, _<_}
+use Prim.Native.Nat.{ℕ, zero, suc, _+_, _-_, _*_, _<_}
 use mathlib.Core.Path.{_≡_, refl, sym, ap, _∙_}
 use mathlib.Core.Bool.{Bool, true, false, cond, Bool·beq, true≢false, false≢true}
 use mathlib.Core.List.{[], _∷_}
 use native.Mathlib.Omega.{arith}
+use lib.ListN.{getD}
 use lib.Dec.{eqb}
 use lib.Bits.{bitAnd}
 use Rattle.verdict.specs.Bits.{bit, shiftIn}
 use Rattle.phy.specs.Abilities.{one, ableFull, ableHalf}
-use Rattle.phy.specs.Control.{duplexBit, speedFrom, newControl, newBit12, newBit9, newBit8, newBit5}
-use Rattle.phy.proofs.Words.{bit-lt, and-mask-of}
+use Rattle.phy.specs.Control.{duplexBit, speedFrom, newBits, newControl, newBit12, newBit9, newBit8, newBit5}
+use Rattle.phy.proofs.Words.{bit-lt, and-mask-of, row-bit}
 
 cond-lt : (test : Bool) (a b : ℕ) → a < 2 → b < 2 → cond test a b < 2
 cond-lt true a b h l = h
@@ -96,3 +97,39 @@ control-parts status extended old word =
     let b8 = newBit8-lt status extended word in
     let b5 = newBit5-lt status word in
     (omega arith, omega arith)
+
+-- each bit of the new word stands in the row of its bits
+pub newControl-bit : (status extended old word i : ℕ) → i < 16
+    → bit i (newControl status extended old word) ≡ getD (newBits status extended old word) (15 - i) 0
+unfolding newControl
+newControl-bit status extended old word i below =
+    let speed = speedFrom status extended old word in
+    let none : 0 < 2 = omega arith in
+    let place : 16 - (i + 1) ≡ 15 - i = omega arith in
+    row-bit 0 (newBits status extended old word) (
+      none,
+      (
+        bit-lt 14 word,
+        (
+          bit-lt 13 speed,
+          (
+            newBit12-lt status word,
+            (
+              bit-lt 11 word,
+              (
+                bit-lt 10 word,
+                (
+                  newBit9-lt status old word,
+                  (
+                    newBit8-lt status extended word,
+                    (bit-lt 7 word, (bit-lt 6 speed, (newBit5-lt status word, (none, (none, (none, (none, (none, tt)))))))),
+                  ),
+                ),
+              ),
+            ),
+          ),
+        ),
+      ),
+    )
+    i below
+    ∙ ap (λ (j : ℕ). getD (newBits status extended old word) j 0) place

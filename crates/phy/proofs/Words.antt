@@ -4,13 +4,15 @@ use mathlib.Core.Path.{_≡_, refl, sym, ap, ap₂, _∙_}
 use mathlib.Core.Bool.{Bool, true, false, not, _&&_, _||_, cond, or-assoc, or-false}
 use mathlib.Core.List.{List, [], _∷_}
 use native.Mathlib.Omega.{arith}
+use lib.ListN.{length, getD}
 use native.Mathlib.Nat.{zero-mul, zero-add, one-mul, mul-one, add-zero, mod-lt, mod-one, mod-eq-of-lt, pow-suc, add-comm, mul-assoc, div-one}
 use native.Mathlib.Numerals.{add-one}
+use native.Mathlib.Decide.{ℕ-discrete}
 use lib.Dec.{T, eqb, ltb, ltb→lt}
-use lib.Pow.{pow-pos, pow-lt, split, mod-pow-add, shr-shr}
+use lib.Pow.{pow-pos, pow-lt, split, high, low, field, mod-mod-pow, mod-pow-add, shr-shr}
 use lib.Bits.{bitAnd, bitOr, and-block, and-mask, and-zero-r, and-le-l, or-add-and, or-lt}
 use borrow.Author.Tests.{eq-eqb, ne-eqb, eqb-true, eqb-false}
-use Rattle.verdict.specs.Bits.{bit}
+use Rattle.verdict.specs.Bits.{bit, shiftIn}
 use Rattle.phy.specs.Abilities.{one}
 use Rattle.phy.specs.Words.{wordOf, setBit, clearBit}
 
@@ -169,12 +171,15 @@ module _ (mask old word : ℕ) where
   merge-word n m o =
       ap₂ (λ (x y : ℕ). x - bitAnd old y + bitAnd word y) (sym (mod-eq-of-lt o)) (sym (mod-eq-of-lt m)) ∙ merge n
 
-  pub picked-lt : (n : ℕ) → wordOf n pick < 2 ^ n
-  picked-lt n = wordOf-lt n pick (λ i. go i (one i mask))
+  pub pick-lt : (i : ℕ) → pick i < 2
+  pick-lt i = go (one i mask)
     where
-      go : (i : ℕ) (t : Bool) → cond t (bit i word) (bit i old) < 2
-      go i true = bit-lt i word
-      go i false = bit-lt i old
+      go : (t : Bool) → cond t (bit i word) (bit i old) < 2
+      go true = bit-lt i word
+      go false = bit-lt i old
+
+  pub picked-lt : (n : ℕ) → wordOf n pick < 2 ^ n
+  picked-lt n = wordOf-lt n pick pick-lt
 
 -- One bit changed: the change of bit i + 1 is that of bit i in the word without its lowest bit
 bit-suc : (j w : ℕ) → bit (suc j) w ≡ bit j (w / 2)
@@ -234,3 +239,58 @@ clear-lt i n w h = omega arith
 
 pub set-lt : (i n w : ℕ) → i < n → w < 2 ^ n → setBit i w < 2 ^ n
 set-lt i n w h l = rw or-bit at (or-lt n w (2 ^ i) l (pow-lt h))
+
+-- the bits of a word told bit by bit
+bit-mod : (i k w : ℕ) → bit i (w % 2 ^ (k + 1 + i)) ≡ bit i w
+bit-mod i k w = ap (λ (x : ℕ). x % 2) (field w (k + 1) i) ∙ mod-mod-pow (w / 2 ^ i) k 1
+
+bit-low : (i n a l : ℕ) → i < n → l < 2 ^ n → bit i (a * 2 ^ n + l) ≡ bit i l
+bit-low i n a l below small =
+    let size : n - (i + 1) + 1 + i ≡ n = omega arith in
+    sym (bit-mod i (n - (i + 1)) (a * 2 ^ n + l))
+    ∙ ap (λ (k : ℕ). bit i ((a * 2 ^ n + l) % 2 ^ k)) size
+    ∙ ap (bit i) (low a n small)
+
+pub bit-wordOf : (n : ℕ) (f : ℕ → ℕ) → ((i : ℕ) → f i < 2) → (i : ℕ) → i < n → bit i (wordOf n f) ≡ f i
+unfolding wordOf
+bit-wordOf zero f h i l = absurd (omega arith)
+bit-wordOf (suc n) f h i l = go (ℕ-discrete i n) (bit-wordOf n f h i)
+  where
+    go : Dec (i ≡ n) → (i < n → bit i (wordOf n f) ≡ f i) → bit i (f n * 2 ^ n + wordOf n f) ≡ f i
+    go (yes e) earlier =
+        rw e (ap (λ (x : ℕ). x % 2) (high (f n) n (wordOf-lt n f h)) ∙ mod-eq-of-lt (h n))
+    go (no e) earlier = bit-low i n (f n) (wordOf n f) (omega arith) (wordOf-lt n f h) ∙ earlier (omega arith)
+
+-- the bits of a row, high bit first
+abbrev pub Row : List ℕ → Type 0
+Row [] = Unit
+Row (b ∷ bs) = (b < 2) × Row bs
+
+above-row : (i x : ℕ) (bs : List ℕ) → Row bs → bit (i + length bs) (shiftIn x bs) ≡ bit i x
+unfolding shiftIn
+above-row i x [] row = ap (λ (k : ℕ). bit k x) (add-zero i)
+above-row i x (b ∷ bs) row =
+    let place : i + suc (length bs) ≡ suc i + length bs = omega arith in
+    let half : (x * 2 + b) / 2 ≡ x = omega arith in
+    ap (λ (k : ℕ). bit k (shiftIn (x * 2 + b) bs)) place
+    ∙ above-row (suc i) (x * 2 + b) bs (row .1)
+    ∙ bit-suc i (x * 2 + b)
+    ∙ ap (bit i) half
+
+pub row-bit : (x : ℕ) (bs : List ℕ) → Row bs → (i : ℕ) → i < length bs → bit i (shiftIn x bs) ≡ getD bs (length bs - (i + 1)) 0
+unfolding shiftIn
+row-bit x [] row i below = absurd (omega arith)
+row-bit x (b ∷ bs) row i below = go (ℕ-discrete i (length bs)) (row-bit (x * 2 + b) bs (row .1) i)
+  where
+    go : Dec (i ≡ length bs) → (i < length bs → bit i (shiftIn (x * 2 + b) bs) ≡ getD bs (length bs - (i + 1)) 0)
+        → bit i (shiftIn (x * 2 + b) bs) ≡ getD (b ∷ bs) (suc (length bs) - (i + 1)) 0
+    go (yes e) later =
+        let first : suc (length bs) - (i + 1) ≡ 0 = omega arith in
+        let last : (x * 2 + b) % 2 ≡ b = omega arith in
+        let place : i ≡ 0 + length bs = omega arith in
+        ap (λ (k : ℕ). bit k (shiftIn (x * 2 + b) bs)) place
+        ∙ above-row 0 (x * 2 + b) bs (row .1) ∙ bit-zero (x * 2 + b) ∙ last
+        ∙ sym (ap (λ (k : ℕ). getD (b ∷ bs) k 0) first)
+    go (no e) later =
+        let next : suc (length bs) - (i + 1) ≡ suc (length bs - (i + 1)) = omega arith in
+        later (omega arith) ∙ sym (ap (λ (k : ℕ). getD (b ∷ bs) k 0) next)

@@ -1,7 +1,7 @@
 -- Document 01, "Registers": what a write leaves in register 0 and clears in register 1, outside reset.
 use Prim.Native.Nat.{ℕ}
 use mathlib.Core.Bool.{Bool, true, false, _||_, cond}
-use mathlib.Core.List.{[], _∷_}
+use mathlib.Core.List.{List, [], _∷_}
 use lib.ListN.{set}
 use lib.Dec.{eqb}
 use Rattle.verdict.specs.Bits.{bit, valueOf}
@@ -49,14 +49,16 @@ unfoldable pub newBit5 : ℕ → ℕ → ℕ
 newBit5 status word = cond (one 7 status) (bit 5 word) 0
 
 -- all bits from 15 down: "Bits 14, 11, 10, 7 stored; 4:0 zero."
-unfoldable pub newControl : ℕ → ℕ → ℕ → ℕ → ℕ
-newControl status extended old word =
+abbrev pub newBits : ℕ → ℕ → ℕ → ℕ → List ℕ
+newBits status extended old word =
     let speed = speedFrom status extended old word in
-    valueOf
-    (0 ∷ bit 14 word ∷ bit 13 speed ∷ newBit12 status word
+    0 ∷ bit 14 word ∷ bit 13 speed ∷ newBit12 status word
     ∷ bit 11 word ∷ bit 10 word ∷ newBit9 status old word ∷ newBit8 status extended word
     ∷ bit 7 word ∷ bit 6 speed ∷ newBit5 status word ∷ 0
-    ∷ 0 ∷ 0 ∷ 0 ∷ 0 ∷ [])
+    ∷ 0 ∷ 0 ∷ 0 ∷ 0 ∷ []
+
+unfoldable pub newControl : ℕ → ℕ → ℕ → ℕ → ℕ
+newControl status extended old word = valueOf (newBits status extended old word)
 
 -- "1.5 clears if the new 12 is zero or 9 was written one."
 unfoldable pub newStatus : ℕ → ℕ → ℕ
