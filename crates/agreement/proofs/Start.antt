@@ -58,16 +58,19 @@ module _ {P : Type 0} {wire : Party P} {core : Core P} {line : Line P} {Good : P
       let past = quiet-map core (line .put f w) (λ c. laws .keeps-events c .put f w) c n in
       sym (past ps) ∙ ap (quiet core c n) same ∙ past qs
 
-  -- effects and events leave a party that waits waiting, and one that is ready ready
-  pub waits-kept : (effect : P → P) → Keeps wire core line Good effect → (p : P) → Waits line Good p → Waits line Good (effect p)
-  waits-kept effect keeps p w =
-      let untouched : effect p ≡ line .put (line .follower p) (line .captured p) (effect p) = ap effect (sym (laws .fields .same p)) ∙ keeps .put (line .follower p) (line .captured p) p in
-      record {
-        good = keeps .good p (w .good);
-        ones = w .ones;
-        hunts = ap (line .follower) untouched ∙ laws .fields .follower _ _ (effect p) ∙ w .hunts;
-        empty = ap (line .captured) untouched ∙ laws .fields .captured _ _ (effect p) ∙ w .empty;
-      }
+  -- what effects and events leave: follower and captured word; so a party that waits, waiting, and one that is ready, ready
+  module _ (effect : P → P) (keeps : Keeps wire core line Good effect) (p : P) where
+    untouched : effect p ≡ line .put (line .follower p) (line .captured p) (effect p)
+    untouched = ap effect (sym (laws .fields .same p)) ∙ keeps .put (line .follower p) (line .captured p) p
+
+    pub follower-kept : line .follower (effect p) ≡ line .follower p
+    follower-kept = ap (line .follower) untouched ∙ laws .fields .follower _ _ (effect p)
+
+    pub captured-kept : line .captured (effect p) ≡ line .captured p
+    captured-kept = ap (line .captured) untouched ∙ laws .fields .captured _ _ (effect p)
+
+    pub waits-kept : Waits line Good p → Waits line Good (effect p)
+    waits-kept w = record { good = keeps .good p (w .good); ones = w .ones; hunts = follower-kept ∙ w .hunts; empty = captured-kept ∙ w .empty }
 
   ready-kept : (effect : P → P) → Keeps wire core line Good effect → (m : ℕ) (p : P) → Ready line Good m p → Ready line Good m (effect p)
   unfolding waits-kept
