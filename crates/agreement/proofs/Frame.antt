@@ -18,20 +18,13 @@ use Rattle.wire.specs.Follower.{oneMore, follow, headerSeen, answering}
 use Rattle.wire.specs.Machines.{Core, quiet}
 use Rattle.wire.proofs.Runs.{Goes}
 use Rattle.wire.proofs.Voices.{says}
-use Rattle.agreement.specs.Follows.{Line, Follows}
+use Rattle.agreement.specs.Follows.{Line, headerDone, Follows}
 use Rattle.agreement.proofs.Phase.{shown, hears, Fits, guise, early, through}
 use Rattle.agreement.proofs.Seen.{more-fits, same-header, nobody-fits}
 
-module _ {P : Type 0} (core : Core P) (line : Line P) where
-  -- what the header's last clock makes of a party, with the bits seen after it
-  abbrev pub headerEffect : ℕ → P → P
-  headerEffect bits p =
-      let h = headerSeen 14 bits in
-      line .put (Inside 14 bits) (cond (core .answers h p) (core .word h p) 0) (core .afterHeader h p)
-
-  -- what the last clock of a frame with this header makes of a party
-  abbrev pub frameEffect : Header → ℕ → P → P
-  frameEffect h bits p = line .put (Hunting 0) 0 (core .afterFrame h (bits % 2 ^ 16) p)
+-- what the last clock of a frame with this header makes of a party, with the bits seen after it
+abbrev pub frameEffect : {P : Type 0} → Core P → Line P → Header → ℕ → P → P
+frameEffect core line h bits p = line .put (Hunting 0) 0 (core .afterFrame h (bits % 2 ^ 16) p)
 
 -- bits seen of a frame with this header
 record Behind (h : Header) (seen bits : ℕ) : Type 0 where
@@ -55,28 +48,28 @@ module _ {P : Type 0} {wire : Party P} {core : Core P} {line : Line P} {Good : P
       wire .samples level (line .put (Inside seen bits) w p) ≡ line .put (Inside (suc seen) (oneMore bits level)) w p
   unfolding follow
   moves level seen bits w p started before ordinary =
-      laws .clocked .inside level seen bits w p before ordinary
+      laws .sampling .inside level seen bits w p before ordinary
       ∙ rw (lt-leb 31 seen before, ne-eqb seen 1 (omega arith), and-false (not level), add-one seen)
 
   -- the header from the second bit on: the station sends, nobody answers yet
   pub header-phase : (ds : List Drive) (bits c c′ : ℕ) (ps : List P) → length ds ≡ 12 → c′ ≡ c + 11 →
       Goes wire ds c (map (line .put (Inside 2 bits) 0) ps) (hears false 0 2 ds) (suc c′)
-      (map (core .happens (suc c′)) (map (headerEffect core line (shown bits (hears false 0 2 ds))) (quiet core c 11 ps)))
+      (map (core .happens (suc c′)) (map (headerDone core line (shown bits (hears false 0 2 ds))) (quiet core c 11 ps)))
   header-phase [] bits c c′ ps long clocks = absurd (omega arith)
   header-phase (d ∷ ds) bits c c′ ps long clocks =
       let left : length ds ≡ 11 = omega arith in
       rw left at
-      (through laws (λ p. false) 0 (λ c p. refl) false 13 (λ seen bits. (2 ≤ seen) × (seen ≤ 13)) (headerEffect core line)
+      (through laws (λ p. false) 0 (λ c p. refl) false 13 (λ seen bits. (2 ≤ seen) × (seen ≤ 13)) (headerDone core line)
       (λ seen bits p within. early laws seen bits 0 p (omega arith))
       (λ level seen bits p within before. moves level seen bits 0 p (within .0) (omega arith) (omega arith))
       (λ level seen bits within before. (omega arith, omega arith))
-      (λ level bits p within. laws .clocked .header level bits p)
+      (λ level bits p within. laws .sampling .header level bits p)
       d ds 2 bits c c′ ps (omega arith) (omega arith) (omega arith, omega arith) (count-none (λ p. false) ps (λ p. refl)) (nobody-fits (d ∷ ds)))
 
   -- who answers the header drives what it captured
   own-drives : (h : Header) (word seen bits : ℕ) (p : P) → Behind h seen bits → wire .drives (guise line (core .answers h) word seen bits p) ≡ says (core .answers h) (answering seen word) p
   own-drives h word seen bits p b =
-      laws .clocked .inside-drives seen bits _ p
+      laws .driving .inside seen bits _ p
       ∙ ap (λ k. cond (core .answers k p) (answering seen (cond (core .answers h p) word 0)) Released) (b .header)
       ∙ own (core .answers h p)
     where
@@ -97,5 +90,5 @@ module _ {P : Type 0} {wire : Party P} {core : Core P} {line : Line P} {Good : P
       (own-drives h word)
       (λ level seen bits p b before. moves level seen bits _ p (omega (arith, b .from)) before (omega (arith, b .from)))
       (behind-next h)
-      (λ level bits p b. laws .clocked .end level bits _ p ∙ ap (λ k. line .put (Hunting 0) 0 (core .afterFrame k (oneMore bits level % 2 ^ 16) p)) (same-header 31 bits (b .fits) (b .to) level (b .from) ∙ b .header))
+      (λ level bits p b. laws .sampling .end level bits _ p ∙ ap (λ k. line .put (Hunting 0) 0 (core .afterFrame k (oneMore bits level % 2 ^ 16) p)) (same-header 31 bits (b .fits) (b .to) level (b .from) ∙ b .header))
       d ds 14 bits c c′ ps (omega arith) (omega arith) (record { from = omega arith; to = omega arith; fits = fits; header = header }) voices alone)

@@ -48,7 +48,7 @@ module _ {P : Type 0} {wire : Party P} {core : Core P} {line : Line P} {Good : P
   pub early : (seen bits w : ℕ) (p : P) → seen ≤ 14 → wire .drives (line .put (Inside seen bits) w p) ≡ Released
   unfolding answering
   early seen bits w p few =
-      laws .clocked .inside-drives seen bits w p
+      laws .driving .inside seen bits w p
       ∙ rw (ne-eqb seen 15 (omega arith), lt-leb 16 seen (omega arith)) (either (core .answers (headerSeen seen bits) p))
     where
       either : (b : Bool) → cond b Released Released ≡ Released

@@ -16,12 +16,12 @@ use Rattle.wire.specs.Follower.{follow, headerSeen}
 use Rattle.wire.specs.Machines.{Core, headerFor, quiet, beforeReads, beforeWrites}
 use Rattle.wire.proofs.Runs.{Goes, goes-append, goes-to}
 use Rattle.wire.proofs.Quiet.{quiet-clock, quiet-append, quiet-all, quiet-count}
-use Rattle.agreement.specs.Follows.{Line, Follows, Ready, OneAnswers}
+use Rattle.agreement.specs.Follows.{Line, headerDone, Follows, Ready, OneAnswers}
 use Rattle.agreement.specs.Agrees.{rest}
 use Rattle.agreement.proofs.Phase.{shown, hears, Fits, guise, guise-happens}
 use Rattle.agreement.proofs.Start.{starts, put-clock}
 use Rattle.agreement.proofs.Reading.{Captures, Reading, reading}
-use Rattle.agreement.proofs.Frame.{headerEffect, header-phase, frameEffect, frame-phase}
+use Rattle.agreement.proofs.Frame.{header-phase, frameEffect, frame-phase}
 
 module _ {P : Type 0} (core : Core P) (m : ℕ) (t : Transaction) (c : ℕ) (ps : List P) where
   -- the parties at the header's last clock, before and after its effect, and at the frame's last clock, after its effect of a word
@@ -72,14 +72,14 @@ module _ {P : Type 0} {wire : Party P} {core : Core P} {line : Line P} {Good : P
     answered = hears (reads .someone) (reads .word) 14 frame
 
     -- who answers captures the word that is read
-    captured : map (headerEffect core line bits) beforeHeader ≡ map inFrame afterHeader
+    captured : map (headerDone core line bits) beforeHeader ≡ map inFrame afterHeader
     unfolding headed
     captured =
-        map-same (headerEffect core line bits) (λ p. inFrame (core .afterHeader (headerFor t) p)) beforeHeader
+        map-same (headerDone core line bits) (λ p. inFrame (core .afterHeader (headerFor t) p)) beforeHeader
         (all-then (Captures core t (reads .word)) _ beforeHeader capture (reads .captures))
         ∙ sym (map-then inFrame (core .afterHeader (headerFor t)) _ (λ p. refl) beforeHeader)
       where
-        capture : (p : P) → Captures core t (reads .word) p → headerEffect core line bits p ≡ inFrame (core .afterHeader (headerFor t) p)
+        capture : (p : P) → Captures core t (reads .word) p → headerDone core line bits p ≡ inFrame (core .afterHeader (headerFor t) p)
         capture p word =
             ap (λ h. line .put (Inside 14 bits) (cond (core .answers h p) (core .word h p) 0) (core .afterHeader h p)) says
             ∙ ap (λ w. line .put (Inside 14 bits) w (core .afterHeader (headerFor t) p)) (word ∙ ap (λ b. cond b (reads .word) 0) (sym (laws .keeps-header (headerFor t) .answers (headerFor t) p)))
@@ -90,7 +90,7 @@ module _ {P : Type 0} {wire : Party P} {core : Core P} {line : Line P} {Good : P
         let all : suc (suc m) + 11 ≡ beforeReads m = omega arith in
         let before : quiet core (suc (suc (c + m))) 11 (quiet core c (suc (suc m)) ps) ≡ atHeader core m t c ps = sym (quiet-append core (suc (suc m)) 11 c (suc (suc (c + m))) ps (omega arith)) ∙ ap (λ k. quiet core c k ps) all in
         goes-to wire (header-phase laws header 1 (suc (suc (c + m))) readClock (quiet core c (suc (suc m)) ps) header-long (omega arith))
-        (ap (map (core .happens (suc readClock))) (ap₂ (λ w qs. map (headerEffect core line w) qs) seen before ∙ captured)
+        (ap (map (core .happens (suc readClock))) (ap₂ (λ w qs. map (headerDone core line w) qs) seen before ∙ captured)
         ∙ map-past inFrame (core .happens (suc readClock)) (guise-happens laws asked (reads .word) (λ c. laws .keeps-events c .answers (headerFor t)) 14 bits (suc readClock)) afterHeader)
 
     voices : count asked (map (core .happens (suc readClock)) afterHeader) ≡ asBit (reads .someone)
@@ -119,7 +119,7 @@ module _ {P : Type 0} {wire : Party P} {core : Core P} {line : Line P} {Good : P
     unfolding follow quiet
     idle-run =
         put-clock laws Released true (Hunting 0) (Hunting 1) 0 0 (suc endClock) (map (core .happens (suc endClock)) after)
-        (laws .clocked .hunting-drives 0 0) refl (laws .clocked .hunting true 0)
+        (laws .driving .hunting 0 0) refl (laws .sampling .hunting true 0)
 
     pub sends : Goes wire ((replicate m (Driven true) ++ (Driven false ∷ Driven true ∷ [])) ++ (header ++ (frame ++ (Released ∷ [])))) c ps
         ((replicate m true ++ (false ∷ true ∷ [])) ++ (hears false 0 2 header ++ (answered ++ (true ∷ []))))

@@ -81,12 +81,12 @@ module _ {P : Type 0} {wire : Party P} {core : Core P} {line : Line P} {Good : P
     ready-is = sym (laws .fields .same p) ∙ ap₂ (λ f w. line .put f w p) (r .waits .hunts) (r .waits .empty)
 
     ready-silent : wire .drives p ≡ Released
-    ready-silent = ap (wire .drives) ready-is ∙ laws .clocked .hunting-drives (r .waits .ones) 0 p
+    ready-silent = ap (wire .drives) ready-is ∙ laws .driving .hunting (r .waits .ones) 0 p
 
     ready-samples : (level : Bool) → wire .samples level p ≡ line .put (follow (line .enough p) level (line .follower p)) 0 p
     ready-samples level =
         ap (wire .samples level) ready-is
-        ∙ laws .clocked .hunting level (r .waits .ones) p
+        ∙ laws .sampling .hunting level (r .waits .ones) p
         ∙ ap (λ f. line .put (follow (line .enough p) level f) 0 p) (sym (r .waits .hunts))
 
   -- what a 1 makes of a party that hunts
@@ -131,7 +131,7 @@ module _ {P : Type 0} {wire : Party P} {core : Core P} {line : Line P} {Good : P
       (put-clock (Driven true) true (Inside 1 0) (Inside 2 1) 0 0 (suc c) (map (core .happens (suc c)) ps)
       (λ p. early laws 1 0 0 p (omega arith))
       refl
-      (λ p. laws .clocked .inside true 1 0 0 p (omega arith) (omega arith))))
+      (λ p. laws .sampling .inside true 1 0 0 p (omega arith) (omega arith))))
   starts (suc m) c c′ ps clocks ready =
       goes-append wire
       (silent-clock (Driven true) true nearer c ps

@@ -21,6 +21,17 @@ pub record Line (P : Type 0) : Type 0 where
   pub captured : P → ℕ
   pub put : Follower → ℕ → P → P
 
+module _ {P : Type 0} (core : Core P) (line : Line P) where
+  -- the 14th bit of a frame: its header has its effect, and who answers captures the word
+  abbrev pub headerDone : ℕ → P → P
+  headerDone bits p =
+      let h = headerSeen headerBits bits in
+      line .put (Inside headerBits bits) (cond (core .answers h p) (core .word h p) 0) (core .afterHeader h p)
+
+  -- the 32nd bit: the frame has its effect, and the party hunts
+  abbrev pub frameDone : ℕ → P → P
+  frameDone bits p = line .put (Hunting 0) 0 (core .afterFrame (headerSeen frameBits bits) (bits % 2 ^ 16) p)
+
 -- A party of the wire and of the plain machine; Good is what its laws ask of a value
 module _ {P : Type 0} (wire : Party P) (core : Core P) (line : Line P) (Good : P → Type 0) where
   -- follower and captured word are two fields of a party, and nothing else goes by them
@@ -34,25 +45,22 @@ module _ {P : Type 0} (wire : Party P) (core : Core P) (line : Line P) (Good : P
     pub answers : (h : Header) (f : Follower) (w : ℕ) (p : P) → core .answers h (line .put f w p) ≡ core .answers h p
     pub word : (h : Header) (f : Follower) (w : ℕ) (p : P) → core .word h (line .put f w p) ≡ core .word h p
 
-  -- what a party drives, and what a level makes of it, by its follower's place
-  pub record Clocked : Type 0 where
-    pub hunting-drives : (ones w : ℕ) (p : P) → wire .drives (line .put (Hunting ones) w p) ≡ Released
-    pub inside-drives : (seen bits w : ℕ) (p : P) →
+  -- what a party drives, by its follower's place
+  pub record Driving : Type 0 where
+    pub hunting : (ones w : ℕ) (p : P) → wire .drives (line .put (Hunting ones) w p) ≡ Released
+    pub inside : (seen bits w : ℕ) (p : P) →
         wire .drives (line .put (Inside seen bits) w p) ≡ cond (core .answers (headerSeen seen bits) p) (answering seen w) Released
+
+  -- what a level makes of it: the follower moves, and the 14th and the 32nd bit have their effects
+  pub record Sampling : Type 0 where
     pub hunting : (level : Bool) (ones : ℕ) (p : P) →
         wire .samples level (line .put (Hunting ones) 0 p) ≡ line .put (follow (line .enough p) level (Hunting ones)) 0 p
     pub inside : (level : Bool) (seen bits w : ℕ) (p : P) → seen < frameBits - 1 → (seen ≡ headerBits - 1 → ⊥) →
         wire .samples level (line .put (Inside seen bits) w p) ≡ line .put (follow (line .enough p) level (Inside seen bits)) w p
-    -- the 14th bit: its header has its effect, and who answers captures the word
     pub header : (level : Bool) (bits : ℕ) (p : P) →
-        let h = headerSeen headerBits (oneMore bits level) in
-        wire .samples level (line .put (Inside (headerBits - 1) bits) 0 p)
-        ≡ line .put (Inside headerBits (oneMore bits level)) (cond (core .answers h p) (core .word h p) 0) (core .afterHeader h p)
-    -- the 32nd bit: the frame has its effect, and the party hunts
+        wire .samples level (line .put (Inside (headerBits - 1) bits) 0 p) ≡ headerDone core line (oneMore bits level) p
     pub end : (level : Bool) (bits w : ℕ) (p : P) →
-        let frame = oneMore bits level in
-        wire .samples level (line .put (Inside (frameBits - 1) bits) w p)
-        ≡ line .put (Hunting 0) 0 (core .afterFrame (headerSeen frameBits frame) (frame % 2 ^ 16) p)
+        wire .samples level (line .put (Inside (frameBits - 1) bits) w p) ≡ frameDone core line (oneMore bits level) p
 
   -- what every effect and every event keeps; it goes by neither follower nor captured word, and touches neither
   pub record Keeps (effect : P → P) : Type 0 where
@@ -64,7 +72,8 @@ module _ {P : Type 0} (wire : Party P) (core : Core P) (line : Line P) (Good : P
   -- a party that follows frames: nobody answers a write, a write does nothing at its header and a read nothing at its frame's end
   pub record Follows : Type 0 where
     pub fields : Fields
-    pub clocked : Clocked
+    pub driving : Driving
+    pub sampling : Sampling
     pub same-events : (c : ℕ) → wire .happens c ≡ core .happens c
     pub keeps-header : (h : Header) → Keeps (core .afterHeader h)
     pub keeps-frame : (h : Header) (w : ℕ) → Keeps (core .afterFrame h w)
