@@ -1,11 +1,10 @@
 -- A clock and what is driven in it, by where the follower stands.
-use Prim.Native.Nat.{ℕ, _+_, _-_, _≤_, _<_}
+use Prim.Native.Nat.{ℕ, _-_, _≤_, _<_}
 use mathlib.Core.Path.{_≡_, refl, sym, ap, _∙_}
 use mathlib.Core.Bool.{Bool, true, false, cond}
 use native.Mathlib.Omega.{arith}
 use lib.Dec.{leb}
 use borrow.Author.Tests.{eq-eqb, ne-eqb, le-leb, lt-leb, leb-true, leb-false}
-use Rattle.wire.specs.declared.Drive.{Drive}
 use Rattle.wire.specs.declared.Drive.the-variants.{Released, Driven}
 use Rattle.wire.specs.declared.Follower.{Follower}
 use Rattle.wire.specs.declared.Follower.the-variants.{Hunting, Inside}
@@ -59,29 +58,29 @@ module _ (phy : Phy) (seen bits : ℕ) (now : phy .follower ≡ Inside seen bits
   pub drives-word : 16 ≤ seen → seen ≤ 31 → answers (headerSeen seen bits) phy ≡ true → drives phy ≡ Driven (one (31 - seen) (phy .captured))
   drives-word h l own = drives-own own ∙ rw (ne-eqb seen 15 (omega arith), le-leb 16 seen h, le-leb seen 31 l)
 
--- who drives: in an own read of an implemented register, from bit 16 on
-pub record Answering (phy : Phy) : Type 0 where
+-- in an own read of an implemented register, with at least so many bits seen
+pub record OwnRead (least : ℕ) (phy : Phy) : Type 0 where
   pub seen : ℕ
   pub bits : ℕ
   pub now : phy .follower ≡ Inside seen bits
   pub own : answers (headerSeen seen bits) phy ≡ true
-  pub from : 15 ≤ seen
+  pub from : least ≤ seen
   pub upto : seen ≤ 31
 
 released : {A : Type 0} (level : Bool) → Released ≡ Driven level → A
 released level e = let z : _≡_ {A = ℕ} 0 1 = cc in absurd (omega arith)
 
--- a PHY drives only then
-pub drives-only : (phy : Phy) (level : Bool) → drives phy ≡ Driven level → Answering phy
+-- a PHY drives only in such a read, from bit 16 on
+pub drives-only : (phy : Phy) (level : Bool) → drives phy ≡ Driven level → OwnRead 15 phy
 drives-only phy level e = go (phy .follower) refl
   where
-    by : (seen bits : ℕ) → phy .follower ≡ Inside seen bits → (a b t : Bool) → leb 15 seen ≡ a → leb seen 31 ≡ b → answers (headerSeen seen bits) phy ≡ t → Answering phy
+    by : (seen bits : ℕ) → phy .follower ≡ Inside seen bits → (a b t : Bool) → leb 15 seen ≡ a → leb seen 31 ≡ b → answers (headerSeen seen bits) phy ≡ t → OwnRead 15 phy
     by seen bits now false b t early l own = released level (sym (drives-early phy seen bits now (leb-false 15 seen early)) ∙ e)
     by seen bits now true false t f late own = released level (sym (drives-late phy seen bits now (leb-false seen 31 late)) ∙ e)
     by seen bits now true true false f l other = released level (sym (drives-other phy seen bits now other) ∙ e)
     by seen bits now true true true f l own =
         record { seen = seen; bits = bits; now = now; own = own; from = leb-true 15 seen f; upto = leb-true seen 31 l }
 
-    go : (f : Follower) → phy .follower ≡ f → Answering phy
+    go : (f : Follower) → phy .follower ≡ f → OwnRead 15 phy
     go (Hunting ones) now = released level (sym (drives-hunting phy ones now) ∙ e)
     go (Inside seen bits) now = by seen bits now (leb 15 seen) (leb seen 31) (answers (headerSeen seen bits) phy) refl refl refl

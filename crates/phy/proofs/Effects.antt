@@ -4,23 +4,22 @@ use mathlib.Core.Path.{_≡_, refl, sym, ap, _∙_}
 use mathlib.Core.Bool.{Bool, true, false, not, _&&_, _||_, cond}
 use mathlib.Core.List.{List, [], _∷_}
 use native.Mathlib.Omega.{arith}
-use native.Mathlib.Decide.{ℕ-discrete}
 use lib.Dec.{eqb}
-use lib.ListN.{length, getD, set, length-set}
-use lib.Seq.{getD-set-same, getD-set-other, set-out}
+use lib.ListN.{getD, set, length-set}
+use lib.Seq.{getD-set-other}
 use borrow.Author.Tests.{eqb-false}
 use Rattle.verdict.specs.Bits.{bit}
 use Rattle.wire.specs.declared.Follower.{Follower}
 use Rattle.wire.specs.declared.Header.{Header}
 use Rattle.phy.specs.declared.Phy.{Phy}
 use Rattle.phy.specs.Abilities.{one}
-use Rattle.phy.specs.Words.{wordBits, wordOf, setBit, clearBit}
+use Rattle.phy.specs.Words.{setBit, clearBit}
 use Rattle.phy.specs.Fields.{registerOf, defaultOf, maskOf, withBank, withLine}
 use Rattle.phy.specs.Control.{reset, newControl, newStatus, newBit12, writeControl}
 use Rattle.phy.specs.Registers.{implements, inReset, masked, writeOrdinary, heldAfter, readStatus, afterRead, writeBy, afterWrite}
 use Rattle.phy.specs.Events.{linkUp, linkDown, remoteFault, jabber, negotiationComplete, restartDone, resetDone, completes, happening, event}
-use Rattle.phy.specs.Clock.{answers, stores, takes, afterHeader, afterFrame}
-use Rattle.phy.specs.Typed.{Words, Typed, StatusFixed}
+use Rattle.phy.specs.Clock.{answers, stores, afterHeader, afterFrame}
+use Rattle.phy.specs.Typed.{Words, StatusFixed}
 use Rattle.phy.proofs.Words.{set-other, clear-other, set-lt, clear-lt, picked-lt}
 use Rattle.phy.proofs.NewBits.{control-parts}
 use Rattle.phy.proofs.Held.{held-others}

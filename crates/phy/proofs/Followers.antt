@@ -1,18 +1,17 @@
 -- The follower goes by the levels alone: whose frame it is makes no difference to where it stands.
-use Prim.Native.Nat.{ℕ, zero, suc, _+_, _-_, _*_, _/_, _%_, _^_, _≤_, _<_, min}
-use mathlib.Core.Path.{_≡_, refl, sym, ap, ap₂, _∙_}
+use Prim.Native.Nat.{ℕ, _+_, _/_, _%_, _^_, _≤_, _<_, min}
+use mathlib.Core.Path.{_≡_, refl, ap, ap₂, _∙_}
 use mathlib.Core.Bool.{Bool, true, false, not, _&&_, cond, and-false}
 use mathlib.Core.List.{List, [], _∷_}
 use native.Mathlib.Omega.{arith}
 use native.Mathlib.Decide.{ℕ-discrete}
 use lib.Dec.{leb, eqb}
 use lib.ListN.{length}
-use borrow.Author.Tests.{leb-false, le-leb, lt-leb, eq-eqb, ne-eqb}
+use borrow.Author.Tests.{leb-false, lt-leb, ne-eqb}
 use Rattle.wire.specs.declared.Follower.{Follower}
 use Rattle.wire.specs.declared.Follower.the-variants.{Hunting, Inside}
-use Rattle.wire.specs.Follower.{hunt, oneMore, inside, follow, headerOf, afterWrongStart}
+use Rattle.wire.specs.Follower.{oneMore, follow, headerOf, afterWrongStart}
 use Rattle.phy.specs.declared.Phy.{Phy}
-use Rattle.phy.specs.Fields.{withLine}
 use Rattle.phy.specs.Clock.{enough, atFrame, acts, clock}
 
 -- the PHY's follower is the wire's

@@ -1,22 +1,19 @@
 -- What every effect and every clock keeps of a PHY: its record, `enough`, whom it answers, its types.
-use Prim.Native.Nat.{ℕ, _+_, _*_, _%_, _^_, _≤_, _<_, min}
+use Prim.Native.Nat.{ℕ, _+_, _%_, _^_, _≤_, _<_}
 use mathlib.Core.Path.{_≡_, refl, sym, ap, subst, _∙_}
 use mathlib.Core.Bool.{Bool, true, false, not, _&&_, cond}
 use mathlib.Core.List.{List}
-use lib.ListN.{getD}
 use native.Mathlib.Omega.{arith}
-use lib.Dec.{leb, eqb}
-use borrow.Author.Tests.{leb-false}
-use Rattle.verdict.specs.Bits.{bit}
+use lib.Dec.{eqb}
 use Rattle.wire.specs.declared.Follower.{Follower}
 use Rattle.wire.specs.declared.Follower.the-variants.{Hunting, Inside}
 use Rattle.wire.specs.declared.Header.{Header}
-use Rattle.wire.specs.Follower.{hunt, oneMore, inside, follow, headerSeen, afterWrongStart}
+use Rattle.wire.specs.Follower.{oneMore, follow, headerSeen}
 use Rattle.phy.specs.declared.Phy.{Phy}
 use Rattle.phy.specs.Abilities.{one}
 use Rattle.phy.specs.Fields.{registerOf, defaultOf, recordOf, withBank, withLine}
 use Rattle.phy.specs.Registers.{implements}
-use Rattle.phy.specs.Clock.{fresh, enough, answers, stores, word, afterHeader, afterFrame, actsIn, acts, atHeader, clock}
+use Rattle.phy.specs.Clock.{fresh, enough, answers, stores, word, afterHeader, afterFrame, acts, atHeader, clock}
 use Rattle.phy.specs.Typed.{Words, TypedFollower, Typed, StatusFixed, Steady}
 use Rattle.phy.proofs.Clocks.{clock-by}
 use Rattle.phy.proofs.Followers.{follow-keeps}

@@ -10,3 +10,4 @@ pub mod Keeping
 pub mod Followers
 pub mod Examples
 pub mod Typing
+pub mod Frames

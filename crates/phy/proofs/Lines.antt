@@ -12,7 +12,7 @@ use Rattle.wire.specs.Follower.{oneMore, follow, headerSeen}
 use Rattle.phy.specs.declared.Phy.{Phy}
 use Rattle.phy.specs.Fields.{withLine, withFollower}
 use Rattle.phy.specs.Registers.{implements}
-use Rattle.phy.specs.Clock.{enough, answers, word, afterHeader, afterFrame, answerBit, drivesIn, drives, atHeader, atFrame, acts, clock}
+use Rattle.phy.specs.Clock.{enough, answers, word, afterHeader, afterFrame, answerBit, drivesIn, drives, atHeader, acts, clock}
 use Rattle.phy.proofs.Followers.{goes-on}
 use Rattle.phy.proofs.Headers.{afterHeader-silent}
 use Rattle.phy.proofs.Effects.{afterHeader-effect, afterFrame-effect}

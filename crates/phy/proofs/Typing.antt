@@ -1,10 +1,10 @@
 -- Rust's types give `Typed`: what the logic knows of a PHY value that a function takes.
 use Prim.Native.Nat.{ℕ, zero, suc, _^_, _<_}
-use mathlib.Core.Path.{_≡_, refl, sym, ap, subst, _∙_}
+use mathlib.Core.Path.{_≡_, sym, subst, _∙_}
 use mathlib.Core.List.{List, [], _∷_, map, map-id}
 use native.Mathlib.Omega.{arith}
 use lib.ListN.{length, getD, length-map}
-use mir.Syntax.{w8, w16, w32}
+use mir.Syntax.{w16}
 use mir.Val.{Val}
 use denote.Laws.{Is}
 use denote.Plain.{UInt}

@@ -5,13 +5,13 @@ use mathlib.Core.Bool.{Bool, true, false, not, _&&_, _||_, cond, or-assoc, or-fa
 use mathlib.Core.List.{List, [], _∷_}
 use native.Mathlib.Omega.{arith}
 use lib.ListN.{length, getD}
-use native.Mathlib.Nat.{zero-mul, zero-add, one-mul, mul-one, add-zero, mod-lt, mod-one, mod-eq-of-lt, pow-suc, add-comm, mul-assoc, div-one}
+use native.Mathlib.Nat.{zero-mul, zero-add, one-mul, add-zero, mod-lt, mod-one, mod-eq-of-lt, pow-suc, add-comm, mul-assoc, div-one}
 use native.Mathlib.Numerals.{add-one}
 use native.Mathlib.Decide.{ℕ-discrete}
 use lib.Dec.{T, eqb, ltb, ltb→lt}
 use lib.Pow.{pow-pos, pow-lt, split, high, low, field, mod-mod-pow, mod-pow-add, shr-shr}
 use lib.Bits.{bitAnd, bitOr, and-block, and-mask, and-zero-r, and-le-l, or-add-and, or-lt}
-use borrow.Author.Tests.{eq-eqb, ne-eqb, eqb-true, eqb-false}
+use borrow.Author.Tests.{ne-eqb}
 use Rattle.verdict.specs.Bits.{bit, shiftIn}
 use Rattle.phy.specs.Abilities.{one}
 use Rattle.phy.specs.Words.{wordOf, setBit, clearBit}

@@ -1,6 +1,6 @@
 -- Document 01, "The PHY's follower": what a PHY does in a clock, and how it is a party of the wire and of the plain machine.
-use Prim.Native.Nat.{ℕ, _+_, _-_, _/_, _%_, _^_}
-use mathlib.Core.Bool.{Bool, true, false, _&&_, cond}
+use Prim.Native.Nat.{ℕ, _-_, _%_, _^_}
+use mathlib.Core.Bool.{Bool, false, _&&_, cond}
 use mathlib.Core.List.{List}
 use lib.Dec.{eqb, leb}
 use Rattle.frame.specs.Frame.{headerBits, frameBits}
@@ -10,7 +10,7 @@ use Rattle.wire.specs.declared.Drive.the-variants.{Released, Driven}
 use Rattle.wire.specs.declared.Follower.{Follower}
 use Rattle.wire.specs.declared.Follower.the-variants.{Hunting, Inside}
 use Rattle.wire.specs.declared.Header.{Header}
-use Rattle.wire.specs.Follower.{oneMore, follow, headerOf, headerSeen}
+use Rattle.wire.specs.Follower.{oneMore, follow, headerSeen}
 use Rattle.wire.specs.Wire.{Party}
 use Rattle.wire.specs.Machines.{Core}
 use Rattle.phy.specs.declared.Phy.{Phy}

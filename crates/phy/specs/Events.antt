@@ -1,6 +1,6 @@
 -- Document 01, "Registers", Events: "1 link up (1.2 unchanged); 2 link down (1.2 clears); 3 sets 1.4; 4 sets 1.1; 5 sets 1.5 if 0.12 is one and 0.9 zero; 6 clears 0.9; 7 clears 0.15. In reset only 7 acts."
 use Prim.Native.Nat.{ℕ}
-use mathlib.Core.Bool.{Bool, true, false, not, _&&_, cond}
+use mathlib.Core.Bool.{true, false, not, _&&_, cond}
 use lib.Dec.{eqb}
 use Rattle.phy.specs.declared.Phy.{Phy}
 use Rattle.phy.specs.Abilities.{one}

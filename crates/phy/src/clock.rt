@@ -192,7 +192,7 @@ impl Phy {
     }
 
     // The PHY after a clock at a level.
-    pub fn clock(self, level: bool) -> Phy
+    pub fn clock(mut self, level: bool) -> Phy
         ensures { λ r. ⌜ r ≡ clock level self ⌝ }
     {
         let follower = self.follower;
@@ -200,7 +200,7 @@ impl Phy {
         let Follower::Inside(seen, bits) = follower else {
             return self.with_follower(next);
         };
-        let acted = self.acts(seen, Phy::one_more(bits, level));
-        acted.with_follower(next)
+        self = self.acts(seen, Phy::one_more(bits, level));
+        self.with_follower(next)
     }
 }

@@ -1,6 +1,5 @@
 // Register 0, control: the bits, and what a write that does not reset leaves in it.
 ghost use mathlib.Core.Path.{_≡_};
-ghost use mathlib.Core.Bool.{Bool};
 ghost use Prim.Native.Nat.{_+_, _*_, _^_};
 ghost use Rattle.verdict.specs.Bits.{bit};
 ghost use Rattle.phy.specs.Abilities.{one};

@@ -86,15 +86,13 @@ impl Phy {
     }
 
     // The PHY after an event; in reset only the reset's end acts.
-    pub fn event(self, code: u8) -> Phy
+    pub fn event(mut self, code: u8) -> Phy
         ensures { λ r. ⌜ r ≡ event code self ⌝ }
     {
-        if code == Event::RESET_DONE {
-            return self.happening(code);
-        }
-        if self.in_reset() {
+        if self.in_reset() & (code != Event::RESET_DONE) {
             return self;
         }
-        self.happening(code)
+        self = self.happening(code);
+        self
     }
 }
