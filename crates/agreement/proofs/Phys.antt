@@ -19,7 +19,7 @@ use Rattle.phy.proofs.Effects.{Effect, afterHeader-effect, afterFrame-effect}
 use Rattle.phy.proofs.Headers.{answers-reads-only, write-header, read-frame}
 use Rattle.phy.proofs.Keeping.{enough-most, keeps-answers, keeps-enough, keeps-steady, line-steady}
 use Rattle.phy.proofs.Lines.{drives-line-hunting, drives-line, clock-hunting, clock-inside, clock-header, clock-frame}
-use Rattle.agreement.specs.Follows.{Fields, Clocked, Keeps, Follows, OneAnswers}
+use Rattle.agreement.specs.Follows.{Fields, Driving, Sampling, Keeps, Follows, OneAnswers}
 use Rattle.agreement.specs.Phys.{phyLine}
 
 module _ (happens : ℕ → Phy → Phy) (events : (c : ℕ) → Effect (happens c)) where
@@ -37,12 +37,13 @@ module _ (happens : ℕ → Phy → Phy) (events : (c : ℕ) → Effect (happens
         word = λ h f w phy. refl;
       }
 
-  clocked : Clocked (phyParty happens) (phyCore happens) phyLine Steady
+  driving : Driving (phyParty happens) (phyCore happens) phyLine Steady
   unfolding answering
-  clocked =
+  driving = record { hunting = drives-line-hunting; inside = drives-line }
+
+  sampling : Sampling (phyParty happens) (phyCore happens) phyLine Steady
+  sampling =
       record {
-        hunting-drives = drives-line-hunting;
-        inside-drives = drives-line;
         hunting = λ level ones phy. clock-hunting level ones 0 phy;
         inside = λ level seen bits w phy before ordinary. clock-inside level seen bits w phy ordinary (omega arith);
         header = λ level bits phy. clock-header level bits 0 phy;
@@ -62,7 +63,8 @@ module _ (happens : ℕ → Phy → Phy) (events : (c : ℕ) → Effect (happens
   phy-follows =
       record {
         fields = fields;
-        clocked = clocked;
+        driving = driving;
+        sampling = sampling;
         same-events = λ c. refl;
         keeps-header = λ h. keeps (afterHeader-effect h);
         keeps-frame = λ h w. keeps (afterFrame-effect h w);
