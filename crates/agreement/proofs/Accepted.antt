@@ -10,10 +10,10 @@ use Rattle.verdict.specs.declared.Verdict.the-variants.{Done}
 use Rattle.verdict.specs.Refusal.{_when_, _else_}
 use Rattle.verdict.specs.File.{byteAt, records}
 use Rattle.verdict.specs.Lists.{All}
-use Rattle.verdict.proofs.Checks.{file-passes}
 use Rattle.verdict.proofs.Lists.{all-tabulate}
 use Rattle.frame.specs.declared.list.Transaction.{Transaction}
-use Rattle.frame.specs.List.{listRecord, mostTransactions, isRead, transactionAt, zeroByteAt, fieldsWrong, opWrong, faultOf, recordFault, listVerdict, transactions}
+use Rattle.frame.specs.List.{listRecord, isRead, transactionAt, zeroByteAt, fieldsWrong, opWrong, faultOf, recordFault, listVerdict, transactions}
+use Rattle.frame.proofs.Lists.{accepted-list}
 use Rattle.agreement.specs.Agrees.{Accepted}
 
 neither : (a b : Bool) → (a || b) ≡ false → (a ≡ false) × (b ≡ false)
@@ -44,7 +44,8 @@ accepted t zeroByte passes fits =
 pub accepted-all : (list : List ℕ) (n : ℕ) → listVerdict list ≡ Done n → ((i : ℕ) → byteAt list i < 256) → All Accepted (transactions list)
 unfolding recordFault transactionAt
 accepted-all list n passes bytes =
+    let file = accepted-list list n passes in
     all-tabulate Accepted (records listRecord list) (transactionAt list)
     (λ k within. accepted (transactionAt list k) (zeroByteAt list k)
-    (file-passes listRecord mostTransactions (recordFault list) list n passes k within)
+    (file .all-pass k (omega (arith, file .count)))
     (omega (arith, bytes (k * 6 + 4), bytes (k * 6 + 4 + 1))))

@@ -19,7 +19,7 @@ use Rattle.frame.specs.Steps.{startSteps, opSteps}
 use Rattle.frame.specs.Answers.{sent, answered, silent, answerTo, readAnswer}
 use Rattle.wire.specs.Wire.{asBit}
 use Rattle.wire.specs.Machines.{clocksWith, clocksOf}
-use Rattle.agreement.proofs.Rows.{headerRow, op-long, row-long}
+use Rattle.agreement.proofs.Rows.{headerRow, row-long}
 use Rattle.agreement.specs.Levels.{ones, at, heard, heardAll, answerLevels, levelsOf}
 
 -- behind preamble and header stands the answer
@@ -66,7 +66,7 @@ heard-same m t level other second word =
 
 pub levels-long : (m : ℕ) (t : Transaction) (a : Answer) → length (levelsOf m t a) ≡ clocksWith m
 unfolding levelsOf join
-levels-long m t a = simp (length-append, length-replicate, length-map, length-bits, op-long, answer-long) (omega arith)
+levels-long m t a = simp (length-append, length-replicate, length-map, length-bits, answer-long) (omega arith)
   where
     answer-long : (b : Bool) → length (cond b (replicate 18 true) (true ∷ false ∷ ones (bits 16 (a .«data»)))) ≡ 18
     answer-long true = refl

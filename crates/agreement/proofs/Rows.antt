@@ -59,16 +59,12 @@ station-rows m t = ap (map stationDrive) rows ∙ simp (map-append, ones-driven)
     ones-driven zero = refl
     ones-driven (suc m) = ap (λ ds. Driven true ∷ ds) (ones-driven m)
 
-pub op-long : (b : Bool) → length (opSteps b) ≡ 2
-op-long true = refl
-op-long false = refl
-
 module _ (t : Transaction) where
   pub row-small : All (λ b. b < 2) (headerRow t)
   unfolding join
   row-small =
-      all-append (λ b. b < 2) (opSteps (isRead t)) _ (op-small (isRead t))
-      (all-append (λ b. b < 2) (bits 5 (t .address)) _ (bits-small 5 (t .address))
+      all-append (λ b. b < 2) (opSteps (isRead t)) (bits 5 (t .address) ++ (bits 5 (t .register) ++ [])) (op-small (isRead t))
+      (all-append (λ b. b < 2) (bits 5 (t .address)) (bits 5 (t .register) ++ []) (bits-small 5 (t .address))
       (all-append (λ b. b < 2) (bits 5 (t .register)) [] (bits-small 5 (t .register)) tt))
     where
       op-small : (b : Bool) → All (λ b. b < 2) (opSteps b)
@@ -77,7 +73,7 @@ module _ (t : Transaction) where
 
   pub row-long : length (headerRow t) ≡ 12
   unfolding join
-  row-long = simp (length-append, length-bits, op-long)
+  row-long = simp (length-append, length-bits)
 
 module _ (t : Transaction) (accepted : Accepted t) where
   -- the fourteen bits that the header says
@@ -95,7 +91,8 @@ module _ (t : Transaction) (accepted : Accepted t) where
   row-says : shiftIn 1 (headerRow t) ≡ headerWord
   unfolding join
   row-says =
-      simp (shiftIn-append, shiftIn-bits, append-nil)
+      shiftIn-append 1 (opSteps (isRead t)) (bits 5 (t .address) ++ (bits 5 (t .register) ++ []))
+      ∙ simp (shiftIn-append, shiftIn-bits, append-nil)
       (omega (arith, op-is, mod-eq-of-lt (accepted .address), mod-eq-of-lt (accepted .register)))
 
   pub header-long : length (map stationDrive (headerRow t)) ≡ 12

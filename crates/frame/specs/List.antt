@@ -61,6 +61,9 @@ abbrev pub parseOf : ℕ → Transaction → Parse
 parseOf zero t = Good t
 parseOf (suc c) t = Bad (suc c)
 
+unfoldable pub parsed : List ℕ → ℕ → Parse
+parsed list k = parseOf (recordFault list k) (transactionAt list k)
+
 abbrev pub refusalOf : Parse → ℕ
 refusalOf (Good t) = 0
 refusalOf (Bad c) = c

@@ -1,7 +1,9 @@
 -- Document 01, "Records": "Log, 5 bytes per clock: flags (1 level, 2 station drives, 4 two or more parties drive) and a 4-byte mask".
 use Prim.Native.Nat.{ℕ, _+_, _*_, _-_, _%_}
+use mathlib.Core.Path.{_≡_}
 use mathlib.Core.Bool.{Bool, _&&_, cond}
 use mathlib.Core.List.{List, []}
+use denote.Ref.{RefT, now, ptr}
 use lib.ListN.{length, take, drop}
 use lib.Dec.{leb}
 use Rattle.verdict.specs.File.{byteAt}
@@ -30,3 +32,9 @@ partLength log k = cond (hasPart log k) logPartBytes 0
 
 unfoldable pub logPart : List ℕ → ℕ → List ℕ
 logPart log k = take (partLength log k) (drop (partStart log k) log)
+
+-- what `log_part` promises: those bytes, in the place where they lie in the caller's own log
+pub record PartOf (log : RefT (List ℕ)) (k : ℕ) (part : RefT (List ℕ)) : Type 0 where
+  pub bytes : now part ≡ logPart (now log) k
+  pub block : ptr part .0 ≡ ptr log .0
+  pub place : ptr part .1 ≡ partStart (now log) k + ptr log .1

@@ -2,13 +2,13 @@
 use Prim.Native.Nat.{ℕ, zero, suc, _*_}
 use mathlib.Core.Bool.{Bool, true, false}
 use mathlib.Core.List.{List, [], _∷_, map}
-use lib.ListN.{getD, replicate}
+use lib.ListN.{getD, take, drop, replicate}
 use Rattle.verdict.specs.declared.Verdict.{Verdict}
 use Rattle.verdict.specs.Refusal.{andThen}
-use Rattle.verdict.specs.Bits.{bits}
+use Rattle.verdict.specs.Bits.{bits, valueOf}
 use Rattle.verdict.specs.Output.{join, roomFor, Writes}
 use Rattle.frame.specs.declared.list.Transaction.{Transaction}
-use Rattle.frame.specs.Frame.{preamble, clocks}
+use Rattle.frame.specs.Frame.{preamble, frameBits, clocks}
 use Rattle.frame.specs.List.{isRead, listVerdict, transactions}
 
 abbrev pub driveZero : ℕ
@@ -23,21 +23,23 @@ release = 2
 abbrev pub releaseAndSample : ℕ
 releaseAndSample = 3
 
--- the table's rows; where write and read differ the row goes by whether it is a read
+-- the table's columns: what stands for a write, and for a read
+abbrev pub column : {A : Type 0} → Bool → A → A → A
+column false forWrite forRead = forWrite
+column true forWrite forRead = forRead
+
+-- the table's rows
 abbrev pub startSteps : List ℕ
 startSteps = driveZero ∷ driveOne ∷ []
 
 abbrev pub opSteps : Bool → List ℕ
-opSteps false = driveZero ∷ driveOne ∷ []
-opSteps true = driveOne ∷ driveZero ∷ []
+opSteps reads = column reads driveZero driveOne ∷ column reads driveOne driveZero ∷ []
 
 abbrev pub turnaroundSteps : Bool → List ℕ
-turnaroundSteps false = driveOne ∷ driveZero ∷ []
-turnaroundSteps true = release ∷ releaseAndSample ∷ []
+turnaroundSteps reads = column reads driveOne release ∷ column reads driveZero releaseAndSample ∷ []
 
 abbrev pub dataSteps : Bool → ℕ → List ℕ
-dataSteps false word = bits 16 word
-dataSteps true word = replicate 16 releaseAndSample
+dataSteps reads word = column reads (bits 16 word) (replicate 16 releaseAndSample)
 
 -- the table after a preamble of m ones: start, op, address, register, turnaround, data, idle
 abbrev pub table : ℕ → Transaction → List (List ℕ)
@@ -60,6 +62,10 @@ stepsOf t = join (table preamble t)
 unfoldable pub stepAt : Transaction → ℕ → ℕ
 stepAt t zero = release
 stepAt t (suc i) = getD (stepsOf t) i release
+
+-- the frame word: what the 32 bits after the preamble say where the station drives them all
+abbrev pub frameWord : Transaction → ℕ
+frameWord t = valueOf (take frameBits (drop preamble (stepsOf t)))
 
 -- the steps of a list, transaction by transaction
 abbrev pub translation : List ℕ → List ℕ

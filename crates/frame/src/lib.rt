@@ -2,9 +2,17 @@
 // (document 01, "Records" and "Clock steps").
 mod answer;
 mod list;
+mod log;
+mod steps;
 
 pub use answer::Answer;
+pub use answer::decode;
 pub use list::Transaction;
+pub use list::check_list;
+pub use list::transaction_at;
+pub use log::log_part;
+pub use steps::Step;
+pub use steps::translate;
 
 // The shared numbers of a frame. Clocks are positions from 1, and each follows from the preamble's length.
 pub struct Frame {}
@@ -15,11 +23,40 @@ impl Frame {
     pub const HEADER_BITS: usize = 14;
 
     pub const BITS: usize = 32;
-    // A read acts at its 46th clock and a write at its 64th; the idle clock ends the transaction.
+
+    // The bits of a start, and of a write's and a read's op.
+    pub const START_BITS: u16 = 1;
+
+    pub const WRITE_BITS: u16 = 1;
+
+    pub const READ_BITS: u16 = 2;
+
+    pub const START: usize = Frame::PREAMBLE + 1;
+
+    pub const START_LAST: usize = Frame::PREAMBLE + 2;
+
+    pub const OP: usize = Frame::PREAMBLE + 3;
+
+    pub const OP_LAST: usize = Frame::PREAMBLE + 4;
+
+    pub const ADDRESS: usize = Frame::PREAMBLE + 5;
+
+    pub const ADDRESS_LAST: usize = Frame::PREAMBLE + 9;
+
+    pub const REGISTER: usize = Frame::PREAMBLE + 10;
+    // A read acts at its 46th clock, the register's last bit.
     pub const READ_ACTS: usize = Frame::PREAMBLE + Frame::HEADER_BITS;
 
-    pub const WRITE_ACTS: usize = Frame::PREAMBLE + Frame::BITS;
+    pub const TURNAROUND_FIRST: usize = Frame::PREAMBLE + 15;
 
+    pub const TURNAROUND_SECOND: usize = Frame::PREAMBLE + 16;
+
+    pub const DATA: usize = Frame::PREAMBLE + 17;
+
+    pub const DATA_BITS: usize = 16;
+    // A write acts at its 64th clock, the last data bit.
+    pub const WRITE_ACTS: usize = Frame::PREAMBLE + Frame::BITS;
+    // The idle clock ends the transaction.
     pub const CLOCKS: usize = Frame::WRITE_ACTS + 1;
 
     pub const LOG_RECORD: usize = 5;

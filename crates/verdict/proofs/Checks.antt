@@ -1,13 +1,14 @@
 -- Records checked in order: how a loop over them goes, and that a refusal names the first record at fault.
 use Prim.Native.Nat.{ℕ, zero, suc, _+_, _-_, _%_, _≤_, _<_}
 use mathlib.Core.Path.{_≡_, refl, ap, sym, _∙_}
-use mathlib.Core.Bool.{not}
+use mathlib.Core.Bool.{Bool, true, false, not}
 use mathlib.Core.List.{List}
-use lib.ListN.{length}
-use lib.Dec.{eqb, ltb}
 use native.Mathlib.Omega.{arith}
 use native.Mathlib.Numerals.{add-one}
 use native.Mathlib.Decide.{ℕ-discrete}
+use lib.ListN.{length}
+use lib.Dec.{eqb, ltb}
+use borrow.Author.Tests.{eqb-true, eqb-false, ltb-true, ltb-false, eq-eqb, ne-eqb, lt-ltb, le-ltb}
 use Rattle.verdict.specs.declared.Verdict.{Verdict}
 use Rattle.verdict.specs.declared.Verdict.the-variants.{Done, Refused}
 use Rattle.verdict.specs.Refusal.{wrongLength, tooMany, _when_, refuse}
@@ -22,11 +23,15 @@ module _ (fault : ℕ → ℕ) (v : Verdict) where
       rw (left, passes, add-one)
 
   -- a record at fault refuses
-  pub stop : (n k c : ℕ) → k < n → fault k ≡ suc c → inOrder fault k (n - k) v ≡ Refused (suc c) k
+  pub stop : (n k : ℕ) → k < n → (fault k ≡ 0 → ⊥) → inOrder fault k (n - k) v ≡ Refused (fault k) k
   unfolding inOrder
-  stop n k c h fails =
+  stop n k h fails =
       let left : n - k ≡ suc (n - (k + 1)) = omega arith in
-      rw (left, fails)
+      rw left (go (fault k) fails)
+    where
+      go : (f : ℕ) → (f ≡ 0 → ⊥) → refuse f k (inOrder fault (suc k) (n - (k + 1)) v) ≡ Refused f k
+      go zero no-fault = absurd (no-fault refl)
+      go (suc f) no-fault = refl
 
   -- past the last record the answer stands
   pub finish : (n k : ℕ) → n ≤ k → inOrder fault k (n - k) v ≡ v
@@ -102,16 +107,55 @@ all-pass-done fault v k (suc left) h =
     rw (h k (omega arith) (omega arith))
     (all-pass-done fault v (suc k) left (λ i f l. h i (omega arith) (omega arith)))
 
--- a check that lets the answer be done found nothing, and what comes after it is done
-pub refuse-done : (c k n : ℕ) (v : Verdict) → refuse c k v ≡ Done n → (c ≡ 0) × (v ≡ Done n)
-refuse-done zero k n v e = (refl, e)
-refuse-done (suc c) k n v e = absurd (let z : _≡_ {A = ℕ} 0 1 = cc in omega arith)
+-- What a whole file's verdict says
+module _ (size most : ℕ) (fault : ℕ → ℕ) (file : List ℕ) where
+  -- an accepted file
+  pub record Accepted (n : ℕ) : Type 0 where
+    pub whole : length file % size ≡ 0
+    pub count : n ≡ records size file
+    pub allowed : n ≤ most
+    pub all-pass : (k : ℕ) → k < n → fault k ≡ 0
 
--- every record of a file that the checks let through passes its own
-pub file-passes : (size most : ℕ) (fault : ℕ → ℕ) (file : List ℕ) (n : ℕ) → fileVerdict size most fault file ≡ Done n → (i : ℕ) → i < records size file → fault i ≡ 0
-unfolding fileVerdict
-file-passes size most fault file n done i within =
-    let total : ℕ = records size file in
-    let length-passes = refuse-done (wrongLength when not (eqb (length file % size) 0)) 0 n _ done in
-    let count-passes = refuse-done (tooMany when ltb most total) 0 n _ (length-passes .1) in
-    done-all-pass fault total 0 total n (count-passes .1) .1 i (omega arith) (omega arith)
+  -- why a file is refused: "1, 2, then records in order"
+  pub data WhyRefused : ℕ → ℕ → Type 0 where
+    wrong-length : (length file % size ≡ 0 → ⊥) → WhyRefused wrongLength 0
+    too-many : length file % size ≡ 0 → most < records size file → WhyRefused tooMany 0
+    at-record : {c j : ℕ} → length file % size ≡ 0 → records size file ≤ most → FirstAtFault fault 0 (records size file) c j → WhyRefused c j
+
+  in-records : Verdict
+  in-records = inOrder fault 0 (records size file) (Done (records size file))
+
+  -- the verdict by its two tests
+  by-tests : Bool → Bool → Verdict
+  by-tests whole many = refuse (wrongLength when not whole) 0 (refuse (tooMany when many) 0 in-records)
+
+  pub accepted : (n : ℕ) → fileVerdict size most fault file ≡ Done n → Accepted n
+  unfolding fileVerdict by-tests in-records
+  accepted n e = go (eqb (length file % size) 0) (ltb most (records size file)) refl refl e
+    where
+      go : (whole many : Bool) → eqb (length file % size) 0 ≡ whole → ltb most (records size file) ≡ many → by-tests whole many ≡ Done n → Accepted n
+      go false many p q e = absurd (let z : _≡_ {A = ℕ} 0 1 = cc in omega arith)
+      go true true p q e = absurd (let z : _≡_ {A = ℕ} 0 1 = cc in omega arith)
+      go true false p q e =
+          let pass = done-all-pass fault (records size file) 0 (records size file) n e in
+          record {
+            whole = eqb-true _ 0 p;
+            count = sym (pass .0);
+            allowed = omega (arith, ltb-false most _ q, pass .0);
+            all-pass = λ k h. pass .1 k (omega arith) (omega (arith, pass .0));
+          }
+
+  pub why-refused : (c j : ℕ) → fileVerdict size most fault file ≡ Refused c j → WhyRefused c j
+  unfolding fileVerdict by-tests in-records
+  why-refused c j e = go (eqb (length file % size) 0) (ltb most (records size file)) refl refl e
+    where
+      go : (whole many : Bool) → eqb (length file % size) 0 ≡ whole → ltb most (records size file) ≡ many → by-tests whole many ≡ Refused c j → WhyRefused c j
+      go false many p q e =
+          let number : 1 ≡ c = cc in
+          let index : 0 ≡ j = cc in
+          rw (← number, ← index) (wrong-length (eqb-false _ 0 p))
+      go true true p q e =
+          let number : 2 ≡ c = cc in
+          let index : 0 ≡ j = cc in
+          rw (← number, ← index) (too-many (eqb-true _ 0 p) (ltb-true most _ q))
+      go true false p q e = at-record (eqb-true _ 0 p) (ltb-false most _ q) (refused-first fault (records size file) 0 (records size file) c j e)

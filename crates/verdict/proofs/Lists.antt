@@ -1,12 +1,12 @@
 -- Lists given by their elements (`tabulate`) and lists one after the other (`join`).
-use Prim.Native.Nat.{ℕ, zero, suc, _*_, _<_}
+use Prim.Native.Nat.{ℕ, zero, suc, _+_, _*_, _≤_, _<_}
 use mathlib.Core.Path.{_≡_, refl, ap, ap₂, sym, _∙_}
 use mathlib.Core.List.{List, [], _∷_, _++_, map, map-append, append-assoc, append-nil}
 use native.Mathlib.Omega.{arith}
-use native.Mathlib.Nat.{zero-mul, suc-mul}
+use native.Mathlib.Nat.{zero-mul, suc-mul, mul-le-mul-right}
 use native.Mathlib.Decide.{ℕ-discrete}
 use lib.ListN.{length, getD, length-append, List·getD-append}
-use lib.Seq.{getD-at, ext-getD}
+use lib.Seq.{getD-at, getD-append-add, ext-getD}
 use Rattle.verdict.specs.Lists.{All}
 use Rattle.verdict.specs.Output.{tabulate, join}
 use Rattle.verdict.proofs.Elements.{all-append}
@@ -64,6 +64,25 @@ module _ {A : Type 0} where
   length-pieces w zero piece size = sym (zero-mul w)
   length-pieces w (suc n) piece size =
       simp (join-append, length-append, length-pieces w n piece size, append-nil, size n, suc-mul)
+
+  -- the value at place i of piece k
+  pub getD-pieces : (w n : ℕ) (piece : ℕ → List A) → ((k : ℕ) → length (piece k) ≡ w) → (d : A) (k i : ℕ) → k < n → i < w → getD (join (tabulate n piece)) (k * w + i) d ≡ getD (piece k) i d
+  unfolding tabulate join
+  getD-pieces w zero piece size d k i h l = absurd (omega arith)
+  getD-pieces w (suc n) piece size d k i h l = rw (join-append (tabulate n piece) (piece n ∷ []), append-nil) (go (ℕ-discrete k n) (getD-pieces w n piece size d k i))
+    where
+      all : List A
+      all = join (tabulate n piece)
+
+      go : Dec (k ≡ n) → (k < n → i < w → getD all (k * w + i) d ≡ getD (piece k) i d) → getD (all ++ piece n) (k * w + i) d ≡ getD (piece k) i d
+      go (yes e) earlier =
+          let place : k * w + i ≡ length all + i = ap (λ m. m * w + i) e ∙ ap (λ m. m + i) (sym (length-pieces w n piece size)) in
+          rw (place, getD-append-add all (piece n), e)
+      go (no e) earlier =
+          let below : k < n = omega arith in
+          let rows : suc k * w ≤ n * w = mul-le-mul-right w below in
+          let within : k * w + i < length all = omega (arith, rows, suc-mul k w, length-pieces w n piece size) in
+          List·getD-append all (piece n) d (k * w + i) within ∙ earlier below l
 
 pub map-tabulate : {A B : Type 0} (g : A → B) (n : ℕ) (f : ℕ → A) → map g (tabulate n f) ≡ tabulate n (λ i. g (f i))
 unfolding tabulate

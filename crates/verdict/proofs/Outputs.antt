@@ -1,11 +1,68 @@
--- A call that writes: its promise fixes its answer and every byte of its output.
-use Prim.Native.Nat.{ℕ}
-use mathlib.Core.Path.{_≡_, sym, _∙_}
-use mathlib.Core.List.{List}
+-- Outputs: a promise fixes the answer and every byte, and a loop fills an output from its start.
+use Prim.Native.Nat.{ℕ, suc, _+_, _*_, _-_, _≤_, _<_}
+use mathlib.Core.Path.{_≡_, refl, sym, ap, _∙_}
+use mathlib.Core.List.{List, [], _∷_, _++_, append-assoc, append-nil}
+use native.Mathlib.Omega.{arith}
+use native.Mathlib.Nat.{suc-mul}
+use native.Mathlib.Numerals.{add-one}
+use borrow.Rule.Slice.PartMut.{putMid}
+use lib.ListN.{length, drop, set, length-append, length-drop}
+use lib.Seq.{drop-cons, set-at, take-at, drop-at, drop-drop}
 use Rattle.verdict.specs.declared.Verdict.{Verdict}
-use Rattle.verdict.specs.Output.{Writes}
+use Rattle.verdict.specs.declared.Verdict.the-variants.{Done, Refused}
+use Rattle.verdict.specs.Output.{tabulate, join, written, Writes}
+use Rattle.verdict.proofs.Lists.{length-tabulate, join-append, length-pieces}
 
 module _ {answer : Verdict} {result out : List ℕ} {r s : Verdict} {out₁ out₂ : List ℕ} where
   -- two results that meet the promise are equal
   pub writes-unique : Writes answer result out r out₁ → Writes answer result out s out₂ → (r ≡ s) × (out₁ ≡ out₂)
   writes-unique p q = (p .verdict ∙ sym (q .verdict), p .output ∙ sym (q .output))
+
+-- a refusal leaves the output as it was
+pub refuses : {answer r : Verdict} {c k : ℕ} (result out : List ℕ) → answer ≡ Refused c k → r ≡ Refused c k → Writes answer result out r out
+refuses result out e p = record { verdict = p ∙ sym e; output = rw e }
+
+-- success writes the result
+pub succeeds : {answer : Verdict} {n : ℕ} {result out out′ : List ℕ} → answer ≡ Done n → out′ ≡ written result out → Writes answer result out (Done n) out′
+succeeds e p = record { verdict = sym e; output = rw e p }
+
+-- An output filled value by value
+module _ (f : ℕ → ℕ) (out : List ℕ) where
+  abbrev pub filled : ℕ → List ℕ
+  filled i = tabulate i f ++ drop i out
+
+  pub length-filled : (i : ℕ) → i ≤ length out → length (filled i) ≡ length out
+  length-filled i h = simp (length-append, length-tabulate, length-drop) (omega arith)
+
+  -- one value more
+  pub fill-next : (i : ℕ) → i < length out → set (filled i) i (f i) ≡ filled (i + 1)
+  unfolding tabulate
+  fill-next i h =
+      rw (drop-cons out i 0 h, set-at (tabulate i f) _ _ (f i) i (length-tabulate i f), add-one)
+      (sym (append-assoc (tabulate i f) (f i ∷ []) (drop (suc i) out)))
+
+-- An output filled piece by piece, each w values long
+abbrev pub pieced : ℕ → (ℕ → List ℕ) → List ℕ → ℕ → List ℕ
+pieced w piece out k = join (tabulate k piece) ++ drop (k * w) out
+
+module _ (w : ℕ) (piece : ℕ → List ℕ) (size : (k : ℕ) → length (piece k) ≡ w) (out : List ℕ) where
+  pub length-pieced : (k : ℕ) → k * w ≤ length out → length (pieced w piece out k) ≡ length out
+  length-pieced k h = simp (length-append, length-pieces w k piece size, length-drop) (omega arith)
+
+  more : (k : ℕ) → join (tabulate k piece) ++ piece k ≡ join (tabulate (k + 1) piece)
+  unfolding tabulate join
+  more k = rw (add-one, join-append (tabulate k piece) (piece k ∷ []), append-nil)
+
+  -- one piece more, put in the place of w values after k pieces
+  pub piece-next : (k : ℕ) → putMid (k * w) (k * w + w - k * w) (pieced w piece out k) (piece k) ≡ pieced w piece out (k + 1)
+  piece-next k =
+      let long = length-pieces w k piece size in
+      let all = join (tabulate k piece) in
+      let width : k * w + w - k * w ≡ w = omega arith in
+      let place : (k + 1) * w ≡ k * w + w = rw (add-one, suc-mul) in
+      rw (take-at all (drop (k * w) out) (k * w) long, drop-at all (drop (k * w) out) (k * w) long, width, drop-drop, place)
+      (sym (append-assoc all (piece k) (drop (k * w + w) out)) ∙ ap (λ (xs : List ℕ). xs ++ drop (k * w + w) out) (more k))
+
+  -- all pieces are the result
+  pub pieced-all : (n : ℕ) → pieced w piece out n ≡ written (join (tabulate n piece)) out
+  pieced-all n = rw (length-pieces w n piece size)

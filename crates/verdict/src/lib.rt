@@ -1,4 +1,8 @@
-// The answer of every call (document 01, "Refusal numbers").
+// What every call shares: its answer, and the bytes of a file (document 01, "Records" and "Refusal numbers").
+ghost use mathlib.Core.Path.{_≡_};
+ghost use Rattle.verdict.specs.File.{byteAt, wordAt};
+
+// The answer of every call.
 pub enum Verdict {
     // The bytes written where a call writes, else the number of records or PHYs.
     Done(usize),
@@ -33,4 +37,24 @@ impl Verdict {
     pub const NOT_SOUND: u8 = 12;
 
     pub const WRONG_LOG_LENGTH: u8 = 13;
+}
+
+// A file's byte; past the end it reads 0.
+pub fn byte_at(file: &[u8], i: usize) -> u8
+    ensures { λ r. ⌜ r ≡ byteAt (now (file .entry)) i ⌝ }
+{
+    if i < file.len() { file[i] } else { 0 }
+}
+
+// A number of two bytes, high byte first.
+pub fn word_at(file: &[u8], i: usize) -> u16
+    ensures { λ r. ⌜ r ≡ wordAt (now (file .entry)) i ⌝ }
+{
+    if i < file.len() {
+        let high = byte_at(file, i) as u16;
+        let low = byte_at(file, i + 1) as u16;
+        high * 256 + low
+    } else {
+        0
+    }
 }

@@ -8,8 +8,6 @@ use Rattle.wire.specs.declared.Follower.the-variants.{Hunting}
 use borrow.Author.Needs.{needs}
 use Rattle.wire.proofs.Follower.follow.Statement.{statement}
 use Rattle.wire.proofs.Follower.follow.Tie as tie
-use Rattle.wire.proofs.Follower.follow.Reads as reads
-use Rattle.wire.proofs.Follower.follow.Lts as lts
 
 enum-known-self : tie.Need-enum-known-self
 enum-known-self c = search needs

@@ -4,8 +4,6 @@ use Rattle.wire.specs.Follower.{headerOf}
 use borrow.Author.Needs.{needs}
 use Rattle.wire.proofs.Header.of.Statement.{statement}
 use Rattle.wire.proofs.Header.of.Tie as tie
-use Rattle.wire.proofs.Header.of.Reads as reads
-use Rattle.wire.proofs.Header.of.Lts as lts
 
 cast-t4 : tie.Need-cast-t4
 cast-t4 c = search needs
