@@ -12,3 +12,4 @@ pub mod Lists
 pub mod Accepted
 pub mod Decoded
 pub mod Agreement
+pub mod Cases

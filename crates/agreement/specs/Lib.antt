@@ -1,3 +1,4 @@
 pub mod Follows
 pub mod Levels
 pub mod Agrees
+pub mod Cases
