@@ -13,3 +13,4 @@ pub mod Accepted
 pub mod Decoded
 pub mod Agreement
 pub mod Phys
+pub mod Cases

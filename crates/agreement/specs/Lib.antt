@@ -2,3 +2,4 @@ pub mod Follows
 pub mod Levels
 pub mod Agrees
 pub mod Phys
+pub mod Cases
