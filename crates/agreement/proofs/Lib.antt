@@ -14,3 +14,5 @@ pub mod Decoded
 pub mod Agreement
 pub mod Phys
 pub mod Cases
+pub mod Boards
+pub mod Demand3

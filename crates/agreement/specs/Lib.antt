@@ -3,3 +3,4 @@ pub mod Levels
 pub mod Agrees
 pub mod Phys
 pub mod Cases
+pub mod Demand3

@@ -35,6 +35,16 @@ pub record Effect (f : Phy → Phy) : Type 0 where
 pub nothing : Effect (λ phy. phy)
 nothing = record { blind = λ g w phy. refl; bank = λ phy. refl; fixed = λ phy h. h; typed = λ phy d r. r }
 
+-- so is one after the other
+pub one-after : (f g : Phy → Phy) → Effect f → Effect g → Effect (λ phy. g (f phy))
+one-after f g ef eg =
+    record {
+      blind = λ l w phy. ap g (ef .blind l w phy) ∙ eg .blind l w (f phy);
+      bank = λ phy. eg .bank (f phy) ∙ ap (withBank (g (f phy) .registers) (g (f phy) .link)) (ef .bank phy);
+      fixed = λ phy h. eg .fixed (f phy) (ef .fixed phy h);
+      typed = λ phy d r. eg .typed (f phy) (rw (ap (λ (p : Phy). p .defaults) (ef .bank phy)) d) (ef .typed phy d r);
+    }
+
 -- so is one of two, by a test that does not see the follower
 pub either : (test : Phy → Bool) → ((follower : Follower) (captured : ℕ) (phy : Phy) → test (withLine follower captured phy) ≡ test phy)
     → (f g : Phy → Phy) → Effect f → Effect g → Effect (λ phy. cond (test phy) (f phy) (g phy))

@@ -1,0 +1,2 @@
+pub mod HappensEffect
+pub mod LogLevels
