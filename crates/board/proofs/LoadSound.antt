@@ -18,7 +18,6 @@ use Rattle.phy.specs.Record.{every, masksZero, unimplementedZero, wordsRight, w
 use Rattle.phy.specs.Sound.{isBlank, blank, nowhere}
 use Rattle.phy.proofs.Every.{both, neither}
 use Rattle.phy.proofs.Fresh.{fresh-sound}
-use Rattle.board.specs.declared.Board.{Board}
 use Rattle.board.specs.Record.{fieldsWrong}
 use Rattle.board.specs.Check.{places, placeAt, recordPasses, placeSound, checked}
 use Rattle.board.specs.Load.{boardRecord, zeroByteAt, phyAt, usedBefore, recordFault, boardVerdict, boardOf, noPhys, loadedBy, loaded}
@@ -31,9 +30,6 @@ unfolding isBlank blank every
 blank-blank = refl
 
 module _ (file : List ℕ) (n : ℕ) (done : boardVerdict file ≡ Done n) where
-  abbrev board : Board
-  board = boardOf n (phyAt file)
-
   fits : n ≤ places
   fits = done-file boardRecord places (recordFault file) file n done .at-most
 
