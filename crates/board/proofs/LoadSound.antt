@@ -1,5 +1,5 @@
 -- A load gives a sound board: each record that passed is a fresh PHY that is sound, and the other places are blank.
-use Prim.Native.Nat.{ℕ, _+_, _-_, _%_, _≤_, _<_}
+use Prim.Native.Nat.{ℕ, _+_, _-_, _≤_, _<_}
 use mathlib.Core.Bool.{Bool, true, false, not, _&&_}
 use mathlib.Core.List.{List, _++_}
 use mathlib.Core.Path.{_≡_, refl, ap, _∙_}
@@ -7,13 +7,10 @@ use native.Mathlib.Omega.{arith}
 use lib.ListN.{length, getD, drop, replicate, getD-replicate}
 use lib.Seq.{getD-append-add, getD-drop}
 use lib.Dec.{eqb, ltb, leb}
-use borrow.Author.Tests.{lt-leb, le-leb, leb-true, leb-false, ltb-false}
+use borrow.Author.Tests.{lt-leb, le-leb, leb-true, leb-false}
 use Rattle.verdict.specs.declared.Verdict.{Verdict}
 use Rattle.verdict.specs.declared.Verdict.the-variants.{Done, Refused}
-use Rattle.verdict.specs.Refusal.{wrongLength, tooMany, _when_, refuse}
-use Rattle.verdict.specs.File.{records, inOrder, fileVerdict}
 use Rattle.verdict.specs.Output.{tabulate}
-use Rattle.verdict.proofs.Checks.{done-all-pass}
 use Rattle.verdict.proofs.Lists.{length-tabulate}
 use Rattle.wire.specs.declared.Follower.the-variants.{Hunting}
 use Rattle.phy.specs.declared.Phy.{Phy}
@@ -21,35 +18,20 @@ use Rattle.phy.specs.Record.{every, masksZero, unimplementedZero, wordsRight, w
 use Rattle.phy.specs.Sound.{isBlank, blank, nowhere}
 use Rattle.phy.proofs.Every.{both, neither}
 use Rattle.phy.proofs.Fresh.{fresh-sound}
-use Rattle.board.specs.declared.Board.{Board}
 use Rattle.board.specs.Record.{fieldsWrong}
 use Rattle.board.specs.Check.{places, placeAt, recordPasses, placeSound, checked}
 use Rattle.board.specs.Load.{boardRecord, zeroByteAt, phyAt, usedBefore, recordFault, boardVerdict, boardOf, noPhys, loadedBy, loaded}
+use Rattle.board.proofs.Files.{done-file}
 use Rattle.board.proofs.Loading.{loaded-at, used-before}
 use Rattle.board.proofs.Soundness.{Sound, Passes, sound-check, no-fault-passes, passes-no-fault}
-
--- a file whose checks are done has at most that many records, and each passes
-pub done-file : (size most n : ℕ) (fault : ℕ → ℕ) (file : List ℕ) → fileVerdict size most fault file ≡ Done n → (n ≤ most) × ((k : ℕ) → k < n → fault k ≡ 0)
-unfolding fileVerdict
-done-file size most n fault file e = go (not (eqb (length file % size) 0)) (ltb most (records size file)) refl e
-  where
-    go : (odd many : Bool) → ltb most (records size file) ≡ many → refuse (wrongLength when odd) 0 (refuse (tooMany when many) 0 (inOrder fault 0 (records size file) (Done (records size file)))) ≡ Done n → (n ≤ most) × ((k : ℕ) → k < n → fault k ≡ 0)
-    go true many p e = absurd (let z : _≡_ {A = ℕ} 0 1 = cc in omega arith)
-    go false true p e = absurd (let z : _≡_ {A = ℕ} 0 1 = cc in omega arith)
-    go false false p e =
-        let passes = done-all-pass fault (records size file) 0 (records size file) n e in
-        (omega (arith, passes .0, ltb-false most (records size file) p), λ k l. passes .1 k (omega arith) (omega (arith, passes .0)))
 
 blank-blank : isBlank blank ≡ true
 unfolding isBlank blank every
 blank-blank = refl
 
 module _ (file : List ℕ) (n : ℕ) (done : boardVerdict file ≡ Done n) where
-  abbrev board : Board
-  board = boardOf n (phyAt file)
-
   fits : n ≤ places
-  fits = done-file boardRecord places n (recordFault file) file done .0
+  fits = done-file boardRecord places (recordFault file) file n done .at-most
 
   -- each PHY is as its record says: hunting with 0 ones, link down, every register at default
   pub place-fresh : (k : ℕ) → k < n → placeAt (boardOf n (phyAt file)) k ≡ phyAt file k
@@ -73,7 +55,7 @@ module _ (file : List ℕ) (n : ℕ) (done : boardVerdict file ≡ Done n) where
 
   record-passes : (k : ℕ) → k < n → Passes (zeroByteAt file k) (usedBefore file k) (phyAt file k)
   unfolding recordFault
-  record-passes k l = no-fault-passes _ _ _ (done-file boardRecord places n (recordFault file) file done .1 k l)
+  record-passes k l = no-fault-passes _ _ _ (done-file boardRecord places (recordFault file) file n done .each-passes k l)
 
   words-right : (k : ℕ) → k < n → wordsRight (word (phyAt file k .defaults) 0) (word (phyAt file k .defaults) 1) (word (phyAt file k .defaults) 15) ≡ true
   unfolding defaultsRight

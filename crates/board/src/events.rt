@@ -1,5 +1,4 @@
 // The event file (document 01, "Records": "Events, 4 bytes, 0 to 256: clock number (2 bytes), PHY address, code").
-
 use crate::Board;
 use crate::record;
 use crate::record::Record;

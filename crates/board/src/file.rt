@@ -1,7 +1,7 @@
 // The board file (document 01, "Records": "Board, 134 bytes per PHY, 0 to 32").
-
 use crate::Board;
 use crate::Loaded;
+use crate::bits::Register;
 use crate::record;
 use crate::record::Record;
 use crate::sound;
@@ -29,7 +29,7 @@ fn words_at(file: &[u8], start: usize) -> [u16; 32]
 {
     let mut words = [0u16; 32];
     let mut r: usize = 0;
-    while r < 32 {
+    while r < Register::COUNT {
         words[r] = word_at(file, start + r * 2);
         r += 1;
     }

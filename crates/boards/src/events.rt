@@ -4,7 +4,7 @@ use crate::files;
 use board::Board;
 
 // As many bytes as 257 events have, one more than a file may.
-pub const BYTES: usize = 1028;
+pub(crate) const BYTES: usize = 1028;
 
 // 257 events: event k at clock k, its addresses 0 to 31 and its codes 1 to 7 in turn.
 fn records() -> [u8; 1028] {
@@ -98,7 +98,7 @@ fn orders() {
     );
 }
 
-pub fn all() {
+pub(crate) fn all() {
     lengths();
     codes();
     clocks();

@@ -4,10 +4,10 @@ use board::Loaded;
 use verdict::Verdict;
 
 // As many bytes as 33 records have, one more than a board may.
-pub const BYTES: usize = 4422;
+pub(crate) const BYTES: usize = 4422;
 
 // Writes what is tried, and the answer.
-pub fn say(tried: &[u8], verdict: Verdict) {
+pub(crate) fn say(tried: &[u8], verdict: Verdict) {
     io::write_all(1, tried);
     match verdict {
         Verdict::Done(count) => {
@@ -25,7 +25,7 @@ pub fn say(tried: &[u8], verdict: Verdict) {
 }
 
 // 33 records like board P's, with the addresses 0 to 32.
-pub fn records() -> [u8; 4422] {
+pub(crate) fn records() -> [u8; 4422] {
     let mut file = [0u8; 4422];
     let mut k: usize = 0;
     while k < 33 {
@@ -41,7 +41,7 @@ pub fn records() -> [u8; 4422] {
 }
 
 // The file with one byte of one record changed.
-pub fn put(mut file: [u8; 4422], record: usize, byte: usize, value: u8) -> [u8; 4422] {
+pub(crate) fn put(mut file: [u8; 4422], record: usize, byte: usize, value: u8) -> [u8; 4422] {
     if record < 33 {
         if byte < Board::RECORD {
             let at = record * Board::RECORD + byte;
@@ -52,7 +52,7 @@ pub fn put(mut file: [u8; 4422], record: usize, byte: usize, value: u8) -> [u8; 
 }
 
 // A load of the file's first bytes.
-pub fn load_part(file: [u8; 4422], length: usize) -> Loaded {
+pub(crate) fn load_part(file: [u8; 4422], length: usize) -> Loaded {
     if length < BYTES {
         return board::load(&file[..length]);
     }
@@ -196,7 +196,7 @@ fn orders() {
     say(b"33 records and 3 in record 0", verdict);
 }
 
-pub fn all() {
+pub(crate) fn all() {
     lengths();
     fields();
     addresses();

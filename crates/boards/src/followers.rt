@@ -96,7 +96,7 @@ fn resets() {
     values::try_at(b"unused place inside a frame", 3, busy);
 }
 
-pub fn all() {
+pub(crate) fn all() {
     hunting();
     inside();
     captures();

@@ -10,12 +10,12 @@ fn try_board(tried: &[u8], board: Board) {
 }
 
 // A board of three PHYs with another one at a place.
-pub fn try_at(tried: &[u8], k: usize, phy: Phy) {
+pub(crate) fn try_at(tried: &[u8], k: usize, phy: Phy) {
     try_board(tried, changes::placed(changes::of(3), k, phy));
 }
 
 // The PHY at place 1, and a blank one.
-pub fn plain() -> Phy {
+pub(crate) fn plain() -> Phy {
     changes::at(changes::of(3), 1)
 }
 
@@ -216,7 +216,7 @@ fn states() {
     try_state(b"1.2 zero, link up", 0x3000, 0x7849, true);
 }
 
-pub fn all() {
+pub(crate) fn all() {
     counts();
     addresses();
     records();

@@ -1,10 +1,11 @@
 -- Tests of all the numbers below n: what they say of each one, and how a loop over them goes.
 use Prim.Native.Nat.{ℕ, zero, suc, _+_, _<_}
-use mathlib.Core.Bool.{Bool, true, false, _&&_, _||_, and-true, and-assoc}
+use mathlib.Core.Bool.{Bool, true, false, not, _&&_, _||_, and-true, and-assoc, Bool·not-not}
 use mathlib.Core.Path.{_≡_, refl, ap, ap₂, sym, _∙_}
 use native.Mathlib.Omega.{arith}
 use native.Mathlib.Numerals.{add-one}
 use native.Mathlib.Decide.{ℕ-discrete}
+use borrow.Author.Tests.{not-true, not-false}
 use Rattle.phy.specs.Record.{every, any}
 
 -- both sides of `&&` where it is true
@@ -48,30 +49,29 @@ module _ (test : ℕ → Bool) where
   unfolding every
   every-next k so-far here = rw (add-one, so-far, here)
 
-  -- where none passes, each one fails
-  pub any-none : (n : ℕ) → any n test ≡ false → (i : ℕ) → i < n → test i ≡ false
-  unfolding any
-  any-none zero h i l = absurd (omega arith)
-  any-none (suc n) h i l = go (ℕ-discrete i n) (neither (any n test) (test n) h .1) (any-none n (neither (any n test) (test n) h .0) i)
-    where
-      go : Dec (i ≡ n) → test n ≡ false → (i < n → test i ≡ false) → test i ≡ false
-      go (yes p) here earlier = ap test p ∙ here
-      go (no p) here earlier = earlier (omega arith)
-
-  -- one that passes is enough
-  pub any-passes : (n i : ℕ) → i < n → test i ≡ true → any n test ≡ true
-  any-passes n i l passes = go (any n test) refl
-    where
-      go : (b : Bool) → any n test ≡ b → b ≡ true
-      go true e = refl
-      go false e =
-          let fails : test i ≡ false = any-none n e i l in
-          cc
-
   -- a turn of a loop that found none yet
   pub any-next : (k : ℕ) → any k test ≡ false → test k ≡ false → any (k + 1) test ≡ false
   unfolding any
   any-next k so-far here = rw (add-one, so-far, here)
+
+-- none passes exactly if each one fails
+any-not : (n : ℕ) (test : ℕ → Bool) → any n test ≡ not (every n (λ i. not (test i)))
+unfolding any every
+any-not zero test = refl
+any-not (suc n) test = rw (any-not n test) (de-morgan (every n (λ i. not (test i))) (test n))
+  where
+    de-morgan : (a b : Bool) → not a || b ≡ not (a && not b)
+    de-morgan false b = refl
+    de-morgan true b = sym (Bool·not-not b)
+
+module _ (test : ℕ → Bool) where
+  -- where none passes, each one fails
+  pub any-none : (n : ℕ) → any n test ≡ false → (i : ℕ) → i < n → test i ≡ false
+  any-none n h i l = not-true _ (every-each (λ i. not (test i)) n (not-false _ (sym (any-not n test) ∙ h)) i l)
+
+  -- one that passes is enough
+  pub any-passes : (n i : ℕ) → i < n → test i ≡ true → any n test ≡ true
+  any-passes n i l passes = any-not n test ∙ ap not (every-fails (λ i. not (test i)) n i l (ap not passes))
 
 -- only the numbers below n count
 pub any-ext : (n : ℕ) (test test′ : ℕ → Bool) → ((i : ℕ) → i < n → test i ≡ test′ i) → any n test ≡ any n test′
