@@ -4,3 +4,4 @@ pub mod Acts
 pub mod Log
 pub mod Run
 pub mod Plain
+pub mod Transact

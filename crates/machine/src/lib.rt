@@ -2,9 +2,12 @@
 // the plain machine).
 mod acts;
 mod events;
+mod transact;
+mod without_wire;
 
 use board::Board;
 use verdict::Verdict;
+pub use without_wire::plain;
 
 // What a machine hands back.
 pub struct Outcome {
