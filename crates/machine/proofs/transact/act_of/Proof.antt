@@ -6,9 +6,6 @@ use Rattle.machine.specs.Transact.{actOf}
 use borrow.Author.Needs.{needs}
 use Rattle.machine.proofs.transact.act_of.Statement.{statement}
 use Rattle.machine.proofs.transact.act_of.Tie as tie
-use Rattle.machine.proofs.transact.act_of.Reads as reads
-use Rattle.machine.proofs.transact.act_of.Lts as lts
-use Rattle.machine.proofs.transact.header_for.Reads as header-for-reads
 
 header-for-requires : tie.Need-header-for-requires
 header-for-requires c κs = search needs

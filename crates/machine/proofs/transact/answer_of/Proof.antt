@@ -4,10 +4,6 @@ use Rattle.machine.specs.Transact.{answerOf}
 use borrow.Author.Needs.{needs}
 use Rattle.machine.proofs.transact.answer_of.Statement.{statement}
 use Rattle.machine.proofs.transact.answer_of.Tie as tie
-use Rattle.machine.proofs.transact.answer_of.Reads as reads
-use Rattle.machine.proofs.transact.answer_of.Lts as lts
-use Rattle.frame.proofs.list.Transaction.answer.Reads as answer-reads
-use Rattle.machine.proofs.transact.read_of.Reads as read-of-reads
 
 read-of-requires : tie.Need-read-of-requires
 read-of-requires c κs = search needs

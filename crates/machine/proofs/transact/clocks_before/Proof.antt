@@ -4,8 +4,6 @@ use Rattle.machine.specs.Transact.{clocksBefore}
 use borrow.Author.Needs.{needs}
 use Rattle.machine.proofs.transact.clocks_before.Statement.{statement}
 use Rattle.machine.proofs.transact.clocks_before.Tie as tie
-use Rattle.machine.proofs.transact.clocks_before.Reads as reads
-use Rattle.machine.proofs.transact.clocks_before.Lts as lts
 
 sub-result : tie.Need-sub-result
 sub-result c = search needs

@@ -13,12 +13,6 @@ use Rattle.machine.specs.Transact.{still}
 use Rattle.machine.proofs.Reading.{read-here, read-later, read-nobody}
 use Rattle.machine.proofs.transact.read_of.Statement.{statement}
 use Rattle.machine.proofs.transact.read_of.Tie as tie
-use Rattle.machine.proofs.transact.read_of.Reads as reads
-use Rattle.machine.proofs.transact.read_of.Lts as lts
-use Rattle.frame.proofs.list.Transaction.answer.Reads as answer-reads
-use Rattle.machine.proofs.transact.header_for.Reads as header-for-reads
-use Rattle.phy.proofs.Phy.answers.Reads as answers-reads
-use Rattle.phy.proofs.Phy.word.Reads as word-reads
 
 abbrev Inv-loop : tie.InvT-loop
 Inv-loop transaction board header count i₀ i = (i ≤ count) × (readOf still transaction (physOf board) ≡ readOf still transaction (drop i (physOf board)))

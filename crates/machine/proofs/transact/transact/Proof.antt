@@ -1,6 +1,6 @@
 -- The events before the act, the answer and the act, the events after: one after the other.
 use Prim.Native.Nat.{_+_, _≤_}
-use mathlib.Core.Path.{_≡_, ap, _∙_}
+use mathlib.Core.Path.{ap, _∙_}
 use native.Mathlib.Omega.{arith}
 use Rattle.frame.specs.Frame.{clocks}
 use Rattle.machine.specs.Acts.{actOnAll, upTo}
@@ -10,13 +10,6 @@ use Rattle.machine.proofs.Transacts.{few-before}
 use borrow.Author.Needs.{needs}
 use Rattle.machine.proofs.transact.transact.Statement.{statement}
 use Rattle.machine.proofs.transact.transact.Tie as tie
-use Rattle.machine.proofs.transact.transact.Reads as reads
-use Rattle.machine.proofs.transact.transact.Lts as lts
-use Rattle.machine.proofs.acts.act_on_all.Reads as act-on-all-reads
-use Rattle.machine.proofs.events.happen_until.Reads as happen-until-reads
-use Rattle.machine.proofs.transact.act_of.Reads as act-of-reads
-use Rattle.machine.proofs.transact.answer_of.Reads as answer-of-reads
-use Rattle.machine.proofs.transact.clocks_before.Reads as clocks-before-reads
 
 -- the events leave as many PHYs as there were
 few : (c : tie.After-happen-until) → c .happen-until .result .board .count ≤ 32
