@@ -1,2 +1,8 @@
 pub mod HappensEffect
 pub mod LogLevels
+pub mod Places
+pub mod Happenings
+pub mod Transactions
+pub mod Reading
+pub mod Transacts
+pub mod Laws

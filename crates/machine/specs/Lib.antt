@@ -1,6 +1,8 @@
 pub mod Outcome
 pub mod Events
+pub mod Acts
 pub mod Log
 pub mod Run
 pub mod Plain
 pub mod Computing
+pub mod Transact
