@@ -12,7 +12,7 @@ use Rattle.frame.specs.declared.list.Transaction.{Transaction}
 use Rattle.frame.specs.declared.answer.Answer.{Answer}
 use Rattle.frame.specs.Frame.{preamble, clocks}
 use Rattle.frame.specs.List.{isRead}
-use Rattle.wire.specs.Machines.{Core, headerFor, beforeReads, beforeWrites, clocksWith, quiet, acting, plainAnswer, afterRead, afterWrite, plainAfter, plainAnswers, plainParties}
+use Rattle.wire.specs.Machines.{Core, headerFor, beforeReads, beforeWrites, clocksWith, quiet, acting, plainAnswer, leftByRead, leftByWrite, plainAfter, plainAnswers, plainParties}
 
 module _ {P : Type 0} (core : Core P) where
   pub length-quiet : (n c : ℕ) (ps : List P) → length (quiet core c n ps) ≡ length ps
@@ -26,7 +26,7 @@ module _ {P : Type 0} (core : Core P) where
   length-after : (m : ℕ) (t : Transaction) (c : ℕ) (ps : List P) → length (plainAfter core m t c ps) ≡ length ps
   length-after m t c ps = go (isRead t)
     where
-      go : (b : Bool) → length (cond b (afterRead core m t c ps) (afterWrite core m t c ps)) ≡ length ps
+      go : (b : Bool) → length (cond b (leftByRead core m t c ps) (leftByWrite core m t c ps)) ≡ length ps
       go true = length-acting (core .afterHeader (headerFor t)) c (beforeReads m) (clocksWith m - beforeReads m) ps
       go false = length-acting (core .afterFrame (headerFor t) (t .«data»)) c (beforeWrites m) (clocksWith m - beforeWrites m) ps
 

@@ -12,7 +12,7 @@ use Rattle.frame.specs.declared.list.Transaction.{Transaction}
 use Rattle.frame.specs.Frame.{preamble, clocks}
 use Rattle.frame.specs.List.{listRecord, isRead, transactionAt}
 use Rattle.frame.specs.Answers.{answerBytes}
-use Rattle.wire.specs.Machines.{headerFor, beforeReads, beforeWrites, quiet, acting, readOf, plainAnswer, afterRead, afterWrite, plainAfter, plainAnswers, plainParties}
+use Rattle.wire.specs.Machines.{headerFor, beforeReads, beforeWrites, quiet, acting, readOf, plainAnswer, leftByRead, leftByWrite, plainAfter, plainAnswers, plainParties}
 use Rattle.phy.specs.declared.Phy.{Phy}
 use Rattle.board.specs.declared.Board.{Board}
 use Rattle.machine.specs.declared.acts.Act.{Act}
@@ -89,7 +89,7 @@ module _ (events : List ℕ) (rising : Rising events) (c next : ℕ) (board : Bo
       lead : Bool → ℕ
       lead b = cond b (beforeReads preamble) (beforeWrites preamble)
 
-      go : (b : Bool) → Leaves events (suc (c + clocks)) (λ ps. cond b (afterRead (coreWith events) preamble t c ps) (afterWrite (coreWith events) preamble t c ps)) board (upTo events (c + clocks) (before (lead b) .next) (actOnAll (act b) (before (lead b) .board)))
+      go : (b : Bool) → Leaves events (suc (c + clocks)) (λ ps. cond b (leftByRead (coreWith events) preamble t c ps) (leftByWrite (coreWith events) preamble t c ps)) board (upTo events (c + clocks) (before (lead b) .next) (actOnAll (act b) (before (lead b) .board)))
       go true = act-leaves (HeaderEnds (headerFor t)) 45 20 (c + clocks) (omega arith)
       go false = act-leaves (FrameEnds (headerFor t) (t .«data»)) 63 2 (c + clocks) (omega arith)
 
