@@ -1,0 +1,52 @@
+// The bench's calls for C and Rust: numbers and byte slices. Each answers 0 when done, else number * 65536 + index; a
+// refusal writes nothing.
+use board::load;
+use frame::decode;
+use frame::translate;
+use machine::plain;
+use verdict::Verdict;
+ghost use mathlib.Core.Path.{_≡_};
+ghost use Rattle.door.specs.Door.{codeOf, OpensTranslate, OpensDecode, OpensPlain};
+
+fn code(answer: Verdict) -> u64
+    ensures { λ r. ⌜ r ≡ codeOf answer ⌝ }
+{
+    match answer {
+        Verdict::Done(_) => 0,
+        Verdict::Refused(number, index) => number as u64 * 65536 + (index % 65536) as u64,
+    }
+}
+
+#[no_mangle]
+pub extern "C" fn taksherub_translate(list: &[u8], steps: &mut [u8]) -> u64
+    ensures { λ r. ⌜ OpensTranslate (now (list .entry)) (now (steps .entry)) r (now (steps .exit)) ⌝ }
+{
+    code(translate(list, steps))
+}
+
+#[no_mangle]
+pub extern "C" fn taksherub_decode(list: &[u8], log: &[u8], answers: &mut [u8]) -> u64
+    ensures { λ r. ⌜ OpensDecode (now (list .entry)) (now (log .entry)) (now (answers .entry)) r (now (answers .exit)) ⌝ }
+{
+    code(decode(list, log, answers))
+}
+
+#[no_mangle]
+pub extern "C" fn taksherub_plain(
+    board: &[u8],
+    list: &[u8],
+    events: &[u8],
+    answers: &mut [u8],
+) -> u64
+    ensures { λ r. ⌜ OpensPlain (now (board .entry)) (now (list .entry)) (now (events .entry)) (now (answers .entry)) r (now (answers .exit)) ⌝ }
+{
+    let loaded = load(board);
+    let verdict = loaded.verdict;
+    let Verdict::Done(_) = verdict else {
+        return code(verdict);
+    };
+    let fresh = loaded.board;
+    let outcome = plain(fresh, list, events, answers);
+    let answer = outcome.verdict;
+    code(answer)
+}
