@@ -2,10 +2,10 @@
 //! that hold the two against each other.
 
 pub mod calls;
-
+pub mod compare;
 #[cfg(feature = "door")]
 pub mod door;
-
+pub mod generate;
 pub mod make;
 pub mod model;
 pub mod random;

@@ -55,6 +55,8 @@ pub struct Follower {
     ones: u8,
     /// Ones that let a 0 start a frame.
     enough: u8,
+    /// The PHY's bit in the log's mask.
+    address_bit: u32,
     /// Bits of the frame seen, 0 while hunting.
     bits: u8,
     /// Set from the 14th bit of an own read of an implemented register on.
@@ -67,7 +69,8 @@ pub struct Follower {
 
 impl Follower {
     pub fn hunting(phy: &Phy) -> Follower {
-        Follower { ones: 0, enough: phy.ones_enough(), bits: 0, answers: false, frame: 0, captured: 0 }
+        let (enough, address_bit) = (phy.ones_enough(), 1 << phy.address);
+        Follower { ones: 0, enough, address_bit, bits: 0, answers: false, frame: 0, captured: 0 }
     }
 
     fn hunt(&mut self) {
@@ -76,10 +79,13 @@ impl Follower {
 
     /// What the PHY does in the next clock: "released for bit 15, drives 0 for bit 16, the word for bits 17 to 32".
     fn drives(&self) -> Option<bool> {
+        if !self.answers {
+            return None;
+        }
         match self.bits {
-            15 if self.answers => Some(false),
-            16..=31 if self.answers => Some(self.captured >> (31 - self.bits) & 1 == 1),
-            _ => None,
+            14 => None,
+            15 => Some(false),
+            bits => Some(self.captured >> (31 - bits) & 1 == 1),
         }
     }
 
@@ -140,9 +146,9 @@ impl Board {
         let station = step < RELEASE;
         let mut low = step == 0;
         let mut drivers = 0u32;
-        for (follower, phy) in self.followers.iter().zip(&self.phys) {
+        for follower in &self.followers {
             if let Some(bit) = follower.drives() {
-                drivers |= 1 << phy.address;
+                drivers |= follower.address_bit;
                 low |= !bit;
             }
         }
