@@ -1,21 +1,19 @@
 //! The four calls of the door as a table of functions, so that any two builds of them can be held against each other.
 
-use crate::model::records::{ANSWER_RECORD, LIST_RECORD, LOG_RECORD};
-use crate::model::records::Transaction;
+use crate::model::records::{Transaction, ANSWER_RECORD, LIST_RECORD, LOG_RECORD};
 use crate::model::{self, Board, Refusal};
 
 pub type Answer = Result<(), Refusal>;
 
+/// A machine that loads its board fresh and works off steps or a list.
+pub type Machine = fn(board: &[u8], work: &[u8], events: &[u8], output: &mut [u8]) -> Answer;
+
 #[derive(Clone, Copy)]
 pub struct Calls {
-    /// List, steps.
-    pub translate: fn(&[u8], &mut [u8]) -> Answer,
-    /// Board file, steps, events, log.
-    pub run: fn(&[u8], &[u8], &[u8], &mut [u8]) -> Answer,
-    /// List, log, answers.
-    pub decode: fn(&[u8], &[u8], &mut [u8]) -> Answer,
-    /// Board file, list, events, answers.
-    pub plain: fn(&[u8], &[u8], &[u8], &mut [u8]) -> Answer,
+    pub translate: fn(list: &[u8], steps: &mut [u8]) -> Answer,
+    pub run: Machine,
+    pub decode: fn(list: &[u8], log: &[u8], answers: &mut [u8]) -> Answer,
+    pub plain: Machine,
 }
 
 /// The independent model.
@@ -55,6 +53,14 @@ impl Call {
             Call::Translate => transactions * Transaction::CLOCKS,
             Call::Run => input.steps.len() * LOG_RECORD,
             Call::Decode | Call::Plain => transactions * ANSWER_RECORD,
+        }
+    }
+
+    /// The number of the last clock, after which an event may still act.
+    pub fn last_clock(self, input: &Input) -> usize {
+        match self {
+            Call::Run => input.steps.len(),
+            _ => Call::Translate.full_size(input),
         }
     }
 

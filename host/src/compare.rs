@@ -179,7 +179,9 @@ impl Tally {
 
 impl fmt::Display for Tally {
     fn fmt(&self, f: &mut fmt::Formatter) -> fmt::Result {
-        let by_number = |number| self.refused.iter().filter(|((_, n), _)| *n == number).map(|(_, met)| met.iter().sum::<usize>()).sum::<usize>();
+        let by_number = |number| {
+            self.refused.iter().filter(|((_, n), _)| *n == number).map(|(_, met)| met.iter().sum::<usize>()).sum::<usize>()
+        };
         let refused: usize = (1..=13).map(by_number).sum();
         let name = format!("{:?}", self.call).to_lowercase();
         write!(f, "{name}: {} inputs, {} accepted; refused by number:", self.accepted + refused, self.accepted)?;
@@ -193,7 +195,10 @@ impl fmt::Display for Tally {
             if of_the_whole(number) {
                 writeln!(f, "    {part:<6} {number:>2}  {first:>6}")?;
             } else {
-                writeln!(f, "    {part:<6} {number:>2}  {first:>6} at the first record, {middle:>5} at a middle one, {last:>5} at the last")?;
+                writeln!(
+                    f,
+                    "    {part:<6} {number:>2}  {first:>6} at the first record, {middle:>5} at a middle one, {last:>5} at the last"
+                )?;
             }
         }
         Ok(())
@@ -202,7 +207,7 @@ impl fmt::Display for Tally {
 
 /// The limits and `count` generated inputs for each call. What was met, or the first difference, or what was never met.
 pub fn compare_all(left: &Calls, right: &Calls, count: usize) -> Result<Vec<Tally>, String> {
-    for (what, call, input, expected) in generate::limits() {
+    for generate::Limit { what, call, input, answer: expected } in generate::limits() {
         let answer = compare(call, left, right, &input)?;
         if answer != expected {
             return Err(format!("{call:?}: {what}: both answer {answer:?}, the document {expected:?}\n{}", describe(&input)));

@@ -65,9 +65,7 @@ pub fn run(board: &[u8], steps: &[u8], events: &[u8], log: &mut [u8]) -> Answer 
 }
 
 pub fn decode(list: &[u8], log: &[u8], answers: &mut [u8]) -> Answer {
-    answer(unsafe {
-        taksherub_decode(list.as_ptr(), list.len(), log.as_ptr(), log.len(), answers.as_mut_ptr(), answers.len())
-    })
+    answer(unsafe { taksherub_decode(list.as_ptr(), list.len(), log.as_ptr(), log.len(), answers.as_mut_ptr(), answers.len()) })
 }
 
 pub fn plain(board: &[u8], list: &[u8], events: &[u8], answers: &mut [u8]) -> Answer {

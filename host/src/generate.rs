@@ -1,7 +1,8 @@
 //! Inputs for the four calls: good ones of many kinds, damaged ones, and both sides of every limit.
 
+use crate::calls::Call::{Decode, Plain, Run, Translate};
 use crate::calls::{Answer, Call, Input, MODEL};
-use crate::make::{board_p, event, phy, read};
+use crate::make::{self, board_p, event, phy, read};
 use crate::model::phy::{derived_control, status};
 use crate::model::records::*;
 use crate::random::Random;
@@ -11,9 +12,8 @@ pub fn input(random: &mut Random, call: Call) -> Input {
     let mut input = Input { board: board(random), ..Input::default() };
     input.list = list(random, &input.board);
     input.steps = steps(random, &input);
-    let last_clock = if call == Call::Run { input.steps.len() } else { input.list.len() / LIST_RECORD * Transaction::CLOCKS };
-    input.events = events(random, &input.board, last_clock);
-    if call == Call::Decode {
+    input.events = events(random, &input.board, call.last_clock(&input));
+    if call == Decode {
         input.log = log(random, &input);
     }
     while random.one_in(2) {
@@ -75,7 +75,7 @@ fn any_phy(random: &mut Random, address: u8) -> Vec<u8> {
     if status & status::ABILITIES == 0 && extended == 0 {
         status |= 1 << (9 + random.below(7));
     }
-    let sparse = random.next() & random.next();
+    let sparse = random.number() & random.number();
     let others = random.pick(&[0, 0x0C, 0xFFFF_FFFF, sparse as u32]) & !0x0000_E003;
     if others != 0 {
         status |= status::EXTENDED_REGISTERS;
@@ -118,7 +118,7 @@ fn transaction(random: &mut Random, board: &[u8]) -> [u8; LIST_RECORD] {
     }
     let any = random.word();
     let known = random.pick(&[0x8000, 0x1200, 0x1000, 0x2100, 0x0040, 0x2040, 0x0200, 0x0000]);
-    crate::make::write(address, register, random.pick(&[known, any, any & !0x8000, any & 0x7FE0]))
+    make::write(address, register, random.pick(&[known, any, any & !0x8000, any & 0x7FE0]))
 }
 
 /// Events of every code, mostly near the clocks in which transactions act.
@@ -142,8 +142,7 @@ fn event_clock(random: &mut Random, last_clock: usize) -> usize {
 
 /// Steps of the list, the same with some changed, stray frames, or no frames at all.
 fn steps(random: &mut Random, input: &Input) -> Vec<u8> {
-    let mut steps = vec![0; Call::Translate.full_size(input)];
-    (MODEL.translate)(&input.list, &mut steps).expect("the list is good");
+    let mut steps = make::steps(&input.list);
     match random.below(4) {
         0 => {}
         1 => {
@@ -185,9 +184,8 @@ fn stray_frames(random: &mut Random, board: &[u8], steps: &mut [u8]) {
 
 /// A log of the list's length: of a run, the same with levels changed, or any bytes.
 fn log(random: &mut Random, input: &Input) -> Vec<u8> {
-    let mut steps = vec![0; Call::Translate.full_size(input)];
+    let steps = make::steps(&input.list);
     let mut log = vec![0; steps.len() * LOG_RECORD];
-    (MODEL.translate)(&input.list, &mut steps).expect("the list is good");
     match random.below(4) {
         0 => log.iter_mut().for_each(|byte| *byte = random.byte()),
         kind => {
@@ -202,12 +200,12 @@ fn log(random: &mut Random, input: &Input) -> Vec<u8> {
 }
 
 fn damage(random: &mut Random, call: Call, input: &mut Input) {
-    let last_clock = if call == Call::Run { input.steps.len() } else { Call::Translate.full_size(input) };
+    let last_clock = call.last_clock(input);
     match (call, random.below(3)) {
-        (Call::Run | Call::Plain, 0) => damage_board(random, &mut input.board),
-        (Call::Run | Call::Plain, 1) => damage_events(random, &mut input.events, &input.board, last_clock),
-        (Call::Run, _) => damage_steps(random, &mut input.steps),
-        (Call::Decode, 0) => damage_log(random, &mut input.log),
+        (Run | Plain, 0) => damage_board(random, &mut input.board),
+        (Run | Plain, 1) => damage_events(random, &mut input.events, &input.board, last_clock),
+        (Run, _) => damage_steps(random, &mut input.steps),
+        (Decode, 0) => damage_log(random, &mut input.log),
         _ => damage_list(random, &mut input.list),
     }
 }
@@ -306,7 +304,7 @@ fn damage_list(random: &mut Random, file: &mut Vec<u8>) {
             record[4 + random.below(2)] = 1 << random.below(8);
         }
         4 | 5 => record[0] = random.pick(&[0, 3, 4, 9, over]),
-        6 => record.copy_from_slice(&random.next().to_be_bytes()[..LIST_RECORD]),
+        6 => record.copy_from_slice(&random.number().to_be_bytes()[..LIST_RECORD]),
         _ => damage_bit(random, record),
     }
 }
@@ -352,73 +350,109 @@ fn damage_log(random: &mut Random, log: &mut Vec<u8>) {
     log.resize(random.pick(&[0, short, long, short + 1 - part.min(short + 1), long - 1 + part]), 1);
 }
 
-/// Both sides of every limit, with the answers that the document gives.
-pub fn limits() -> Vec<(&'static str, Call, Input, Answer)> {
-    use Call::*;
-    let mut cases: Vec<(&'static str, Call, Input, Answer)> = Vec::new();
-    let refused = |number, index| Err(Refusal { number, index });
-    let phys = |count: u8| (0..count).flat_map(|k| phy(31 - k, 0x0000000F, &[(0, 0x3000), (1, 0x7849)], &[])).collect::<Vec<u8>>();
-    let good = Input { board: board_p(), list: read(1, 1).to_vec(), ..Input::default() };
-    let mut add = |what, call: Call, input: Input, short: usize, answer| {
-        let room = call.full_size(&input) - short;
-        cases.push((what, call, Input { room, ..input }, answer));
+/// One side of a limit, with the answer that the document gives.
+pub struct Limit {
+    pub what: &'static str,
+    pub call: Call,
+    pub input: Input,
+    pub answer: Answer,
+}
+
+/// Both sides of every limit.
+pub fn limits() -> Vec<Limit> {
+    let parts = [counts_of_the_list(), counts_of_board_and_events(), steps_and_log(), addresses(), last_clocks(), rooms()];
+    parts.into_iter().flatten().collect()
+}
+
+fn refused(number: u8, index: usize) -> Answer {
+    Err(Refusal { number, index })
+}
+
+/// Board P and one read, which the limits change in one place.
+fn good() -> Input {
+    Input { board: board_p(), list: read(1, 1).to_vec(), steps: vec![1; 65], log: vec![1; 325], ..Input::default() }
+}
+
+/// The same input for some calls, with output for the full result.
+fn each(what: &'static str, calls: &[Call], input: Input, answer: Answer) -> Vec<Limit> {
+    let limit = |&call: &Call| Limit { what, call, input: Input { room: call.full_size(&input), ..input.clone() }, answer };
+    calls.iter().map(limit).collect()
+}
+
+fn counts_of_the_list() -> Vec<Limit> {
+    let limit = |(count, answer)| {
+        let input = Input { list: read(1, 1).repeat(count), log: vec![1; 325 * count], ..good() };
+        each("records of the list", &[Translate, Decode, Plain], input, answer)
     };
-    for (count, answer) in [(0, Ok(())), (1, Ok(())), (64, Ok(())), (65, refused(2, 0))] {
-        let input = Input { list: read(1, 1).repeat(count), log: vec![1; 325 * count], ..good.clone() };
-        for call in [Translate, Decode, Plain] {
-            add("records of the list", call, input.clone(), 0, answer);
-        }
-    }
-    for (count, answer) in [(0, Ok(())), (1, Ok(())), (32, Ok(())), (33, refused(2, 0))] {
-        let board = if count < 33 { phys(count) } else { board_p().repeat(33) };
-        let input = Input { board, steps: vec![1; 65], ..good.clone() };
-        add("PHYs of the board", Run, input.clone(), 0, answer);
-        add("PHYs of the board", Plain, input, 0, answer);
-    }
-    for (count, answer) in [(0, Ok(())), (1, Ok(())), (256, Ok(())), (257, refused(2, 0))] {
-        let input = Input { events: event(65, 1, 1).repeat(count), steps: vec![1; 65], ..good.clone() };
-        add("events", Run, input.clone(), 0, answer);
-        add("events", Plain, input, 0, answer);
-    }
-    for (count, answer) in [(0, Ok(())), (1, Ok(())), (4160, Ok(())), (4161, refused(2, 0))] {
-        add("steps", Run, Input { steps: vec![1; count], ..good.clone() }, 0, answer);
-    }
-    for (at, step, answer) in [(0, 3, Ok(())), (0, 4, refused(11, 0)), (32, 4, refused(11, 32)), (64, 4, refused(11, 64))] {
+    [(0, Ok(())), (1, Ok(())), (64, Ok(())), (65, refused(2, 0))].into_iter().flat_map(limit).collect()
+}
+
+/// Board P's part at another address.
+fn part(address: u8) -> Vec<u8> {
+    let mut record = board_p();
+    record[0] = address;
+    record
+}
+
+fn counts_of_board_and_events() -> Vec<Limit> {
+    let phys = |(count, answer)| {
+        let board = (0..count).flat_map(|k| part(31 - k % 32)).collect();
+        each("PHYs of the board", &[Run, Plain], Input { board, ..good() }, answer)
+    };
+    let events = |(count, answer)| {
+        let input = Input { events: event(65, 1, 1).repeat(count), ..good() };
+        each("events", &[Run, Plain], input, answer)
+    };
+    let boards = [(0, Ok(())), (1, Ok(())), (32, Ok(())), (33, refused(2, 0))].into_iter().flat_map(phys);
+    let files = [(0, Ok(())), (1, Ok(())), (256, Ok(())), (257, refused(2, 0))].into_iter().flat_map(events);
+    boards.chain(files).collect()
+}
+
+fn steps_and_log() -> Vec<Limit> {
+    let counts = |(count, answer)| each("steps", &[Run], Input { steps: vec![1; count], ..good() }, answer);
+    let values = |(at, step, answer)| {
         let mut steps = vec![1; 65];
         steps[at] = step;
-        add("step over 3", Run, Input { steps, ..good.clone() }, 0, answer);
-    }
+        each("step over 3", &[Run], Input { steps, ..good() }, answer)
+    };
+    let logs = |(length, answer)| each("length of the log", &[Decode], Input { log: vec![1; length], ..good() }, answer);
+    let counts = [(0, Ok(())), (1, Ok(())), (4160, Ok(())), (4161, refused(2, 0))].into_iter().flat_map(counts);
+    let values =
+        [(0, 3, Ok(())), (0, 4, refused(11, 0)), (32, 4, refused(11, 32)), (64, 4, refused(11, 64))].into_iter().flat_map(values);
+    let logs = [(324, refused(13, 0)), (325, Ok(())), (326, refused(13, 0))].into_iter().flat_map(logs);
+    counts.chain(values).chain(logs).collect()
+}
+
+fn addresses() -> Vec<Limit> {
+    let mut limits = Vec::new();
     for (address, answer) in [(31, Ok(())), (32, refused(3, 2))] {
         for record in [read(address, 0), read(0, address)] {
             let list = [read(0, 0), read(0, 0), record].concat();
-            let input = Input { list, log: vec![0; 975], ..good.clone() };
-            for call in [Translate, Decode, Plain] {
-                add("address and register of the list", call, input.clone(), 0, answer);
-            }
+            let input = Input { list, log: vec![0; 975], ..good() };
+            limits.extend(each("address and register of the list", &[Translate, Decode, Plain], input, answer));
         }
-        let board = [board_p(), phy(2, 15, &[(0, 0x3000), (1, 0x7849)], &[]), phy(address, 15, &[(0, 0x3000), (1, 0x7849)], &[])];
-        add("address of the board", Plain, Input { board: board.concat(), ..good.clone() }, 0, answer);
+        let board = [part(1), part(2), part(address)].concat();
+        limits.extend(each("address of the board", &[Run, Plain], Input { board, ..good() }, answer));
     }
-    for (clock, answer) in [(65, Ok(())), (66, refused(9, 1))] {
+    limits
+}
+
+fn last_clocks() -> Vec<Limit> {
+    let of_one = |(clock, answer)| {
         let events = [event(0, 1, 1), event(clock, 1, 2)].concat();
-        let input = Input { events, steps: vec![2; 65], ..good.clone() };
-        add("the last clock", Run, input.clone(), 0, answer);
-        add("the last clock", Plain, input, 0, answer);
-    }
-    for (clock, answer) in [(0, Ok(())), (1, refused(9, 0))] {
-        let input = Input { events: event(clock, 1, 1).to_vec(), list: Vec::new(), ..good.clone() };
-        add("the last clock of no clocks", Run, input.clone(), 0, answer);
-        add("the last clock of no clocks", Plain, input, 0, answer);
-    }
-    for (length, answer) in [(974, refused(13, 0)), (975, Ok(())), (976, refused(13, 0))] {
-        let input = Input { list: read(1, 1).repeat(3), log: vec![1; length], ..good.clone() };
-        add("length of the log", Decode, input, 0, answer);
-    }
-    for (short, answer) in [(0, Ok(())), (1, refused(10, 0))] {
-        let input = Input { list: read(1, 1).repeat(3), steps: vec![3; 195], log: vec![0; 975], ..good.clone() };
-        for call in Call::ALL {
-            add("room of the output", call, input.clone(), short, answer);
-        }
-    }
-    cases
+        each("the last clock", &[Run, Plain], Input { events, ..good() }, answer)
+    };
+    let of_none = |(clock, answer)| {
+        let input = Input { events: event(clock, 1, 1).to_vec(), list: Vec::new(), steps: Vec::new(), ..good() };
+        each("the last clock of none", &[Run, Plain], input, answer)
+    };
+    let one = [(65, Ok(())), (66, refused(9, 1))].into_iter().flat_map(of_one);
+    one.chain([(0, Ok(())), (1, refused(9, 0))].into_iter().flat_map(of_none)).collect()
+}
+
+fn rooms() -> Vec<Limit> {
+    let enough = each("room of the output", &Call::ALL, good(), Ok(()));
+    let mut short = each("room of the output, one short", &Call::ALL, good(), refused(10, 0));
+    short.iter_mut().for_each(|limit| limit.input.room -= 1);
+    enough.into_iter().chain(short).collect()
 }

@@ -5,6 +5,7 @@ pub mod calls;
 pub mod compare;
 #[cfg(feature = "door")]
 pub mod door;
+pub mod draw;
 pub mod generate;
 pub mod make;
 pub mod model;

@@ -1,4 +1,7 @@
-//! Records from values, for tests and measurements.
+//! Records from values, and steps from records, for tests and measurements.
+
+use crate::model::records::{Transaction, LIST_RECORD};
+use crate::model::translate;
 
 /// A board record.
 pub fn phy(address: u8, implemented: u32, defaults: &[(usize, u16)], write_masks: &[(usize, u16)]) -> Vec<u8> {
@@ -34,4 +37,11 @@ pub fn read(address: u8, register: u8) -> [u8; 6] {
 pub fn event(clock: u16, address: u8, code: u8) -> [u8; 4] {
     let [high, low] = clock.to_be_bytes();
     [high, low, address, code]
+}
+
+/// The steps of a good list.
+pub fn steps(list: &[u8]) -> Vec<u8> {
+    let mut steps = vec![0; list.len() / LIST_RECORD * Transaction::CLOCKS];
+    translate(list, &mut steps).expect("the list is good");
+    steps
 }

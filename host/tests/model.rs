@@ -3,7 +3,9 @@
 use std::fs;
 use std::path::Path;
 use taksherub_host::calls::{Call, Calls, MODEL};
+use taksherub_host::draw::draw;
 use taksherub_host::generate;
+use taksherub_host::make::{board_p, read, steps, write};
 use taksherub_host::model::program;
 use taksherub_host::model::wire::{CONTENTION, STATION};
 use taksherub_host::random::Random;
@@ -11,7 +13,7 @@ use taksherub_host::random::Random;
 /// From a fresh load, the answers by the wire are those of the plain machine.
 #[test]
 fn both_machines_agree() {
-    let Calls { translate, run, decode, plain } = MODEL;
+    let Calls { run, decode, plain, .. } = MODEL;
     let mut random = Random::new(3);
     let mut compared = 0;
     for _ in 0..10_000 {
@@ -21,9 +23,8 @@ fn both_machines_agree() {
         if plain(&input.board, &input.list, &input.events, &mut plainly).is_err() {
             continue;
         }
-        let (mut steps, mut log) = (vec![9; 65 * transactions], vec![9; 325 * transactions]);
-        translate(&input.list, &mut steps).unwrap();
-        run(&input.board, &steps, &input.events, &mut log).unwrap();
+        let mut log = vec![9; 325 * transactions];
+        run(&input.board, &steps(&input.list), &input.events, &mut log).unwrap();
         decode(&input.list, &log, &mut wired).unwrap();
         assert_eq!(wired, plainly);
         assert!(log.iter().step_by(5).all(|flags| flags & CONTENTION == 0), "a translated list shows no contention");
@@ -71,4 +72,17 @@ fn examples_print_what_is_expected() {
         trays += 1;
     }
     assert!(trays >= 6, "{trays} trays");
+}
+
+/// The drawings of docs/BENCH.md are the wire's.
+#[test]
+fn the_bench_page_draws_the_wire() {
+    let page = fs::read_to_string(Path::new(env!("CARGO_MANIFEST_DIR")).join("../docs/BENCH.md")).unwrap();
+    let list = [write(3, 0, 0x1200), read(1, 1), read(2, 0)].concat();
+    let (steps, mut log) = (steps(&list), [9; 3 * 325]);
+    (MODEL.run)(&board_p(), &steps, &[], &mut log).unwrap();
+    for (steps, log) in steps.chunks(65).zip(log.chunks(325)) {
+        let drawing = draw(steps, log);
+        assert!(page.contains(&format!("```\n{drawing}```\n")), "the page lacks\n{drawing}");
+    }
 }

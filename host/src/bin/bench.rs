@@ -2,9 +2,9 @@
 
 use std::hint::black_box;
 use std::time::Instant;
-use taksherub_host::calls::{Calls, MODEL};
+use taksherub_host::calls::{Machine, MODEL};
 use taksherub_host::door::DOOR;
-use taksherub_host::make::{event, phy, read, write};
+use taksherub_host::make::{self, event, phy, read, write};
 use taksherub_host::model::records::{LOG_RECORD, MOST_STEPS};
 
 const ROUNDS: usize = 15;
@@ -14,14 +14,13 @@ fn main() {
     let board: Vec<u8> = (0..32).flat_map(|address| phy(address, 0x0000000F, &[(0, 0x3000), (1, 0x7849)], &[])).collect();
     let list: Vec<u8> = (0..32).flat_map(|address| [write(address, 0, 0x1200), read(address, 1)]).flatten().collect();
     let events: Vec<u8> = (0..128).flat_map(|k| event(32 * k, (k % 32) as u8, (k % 7 + 1) as u8)).collect();
-    let mut steps = vec![0; MOST_STEPS];
-    (MODEL.translate)(&list, &mut steps).expect("the list is good");
+    let steps = make::steps(&list);
 
     let mut logs = [vec![0; MOST_STEPS * LOG_RECORD], vec![0; MOST_STEPS * LOG_RECORD]];
     let mut best = [f64::INFINITY; 2];
     for _ in 0..ROUNDS {
-        for (side, calls) in [DOOR, MODEL].iter().enumerate() {
-            best[side] = best[side].min(nanoseconds_a_clock(calls, &board, &steps, &events, &mut logs[side]));
+        for (side, run) in [DOOR.run, MODEL.run].into_iter().enumerate() {
+            best[side] = best[side].min(nanoseconds_a_clock(run, &board, &steps, &events, &mut logs[side]));
         }
     }
     assert_eq!(logs[0], logs[1], "the two logs differ");
@@ -32,11 +31,10 @@ fn main() {
     println!("ratio {:7.2}", door / model);
 }
 
-fn nanoseconds_a_clock(calls: &Calls, board: &[u8], steps: &[u8], events: &[u8], log: &mut [u8]) -> f64 {
+fn nanoseconds_a_clock(run: Machine, board: &[u8], steps: &[u8], events: &[u8], log: &mut [u8]) -> f64 {
     let start = Instant::now();
     for _ in 0..RUNS_A_ROUND {
-        let answer = (calls.run)(black_box(board), black_box(steps), black_box(events), black_box(&mut *log));
-        answer.expect("the run is good");
+        run(black_box(board), black_box(steps), black_box(events), black_box(&mut *log)).expect("the run is good");
     }
     start.elapsed().as_nanos() as f64 / (RUNS_A_ROUND * steps.len()) as f64
 }

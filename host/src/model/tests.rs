@@ -168,7 +168,10 @@ fn a_gigabit_phy_of_one_duplex() {
 #[test]
 fn bits_outside_the_write_mask_stay() {
     let board = phy(0, 0x00000013, &[(0, 0x3000), (1, 0x7849), (4, 0x01E1)], &[(4, 0x0FF0)]);
-    assert_eq!(exchange(&board, &[write(0, 4, 0xFFFF), read(0, 4), write(0, 4, 0), read(0, 4)], &[])[1..], [(1, 0x0FF1), (0, 0), (1, 0x0001)]);
+    assert_eq!(
+        exchange(&board, &[write(0, 4, 0xFFFF), read(0, 4), write(0, 4, 0), read(0, 4)], &[])[1..],
+        [(1, 0x0FF1), (0, 0), (1, 0x0001)]
+    );
 }
 
 #[test]

@@ -1,9 +1,7 @@
 //! The list as clock steps, the shared wire clock by clock, and the answers in its log.
 
 use super::phy::Phy;
-use super::records::{
-    check_steps, list, room, word, Events, Refusal, Status, Transaction, ANSWER_RECORD, LOG_RECORD,
-};
+use super::records::{check_steps, list, room, word, Events, Refusal, Status, Transaction, ANSWER_RECORD, LOG_RECORD};
 use super::Board;
 
 /// "Steps, one byte each: 0 drive zero, 1 drive one, 2 release, 3 release and sample."
