@@ -5,7 +5,7 @@ use crate::generate;
 use crate::model::records::*;
 use crate::model::Board;
 use crate::random::Random;
-use std::collections::BTreeMap;
+use std::collections::{BTreeMap, BTreeSet};
 use std::fmt;
 
 const SEED: u64 = 0x7461_6B73_6865_7275;
@@ -93,21 +93,16 @@ fn of_the_whole(number: u8) -> bool {
 
 /// The part at fault and its record count, by the order of the checks.
 fn at_fault(call: Call, input: &Input, number: u8) -> (Part, usize) {
-    let board_bad = || Board::load(&input.board).is_err();
-    let list_bad = || list(&input.list).is_err();
-    let steps_bad = || check_steps(&input.steps).is_err();
+    let bad = |part: &&Part| match part {
+        Part::Board => Board::load(&input.board).is_err(),
+        Part::List => list(&input.list).is_err(),
+        Part::Steps => check_steps(&input.steps).is_err(),
+        _ => true,
+    };
     let part = match number {
         Refusal::OUTPUT => Part::Output,
         Refusal::LOG_LENGTH => Part::Log,
-        _ => *parts(call)
-            .iter()
-            .find(|part| match part {
-                Part::Board => board_bad(),
-                Part::List => list_bad(),
-                Part::Steps => steps_bad(),
-                _ => true,
-            })
-            .expect("some part is at fault"),
+        _ => *parts(call).iter().find(bad).expect("the output's room comes last"),
     };
     let count = match part {
         Part::Board => input.board.len() / BOARD_RECORD,
@@ -123,17 +118,20 @@ fn at_fault(call: Call, input: &Input, number: u8) -> (Part, usize) {
 pub struct Tally {
     call: Call,
     accepted: usize,
+    /// The PHY counts of the accepted boards.
+    board_sizes: BTreeSet<usize>,
     refused: BTreeMap<(Part, u8), [usize; 3]>,
 }
 
 impl Tally {
     fn new(call: Call) -> Tally {
-        Tally { call, accepted: 0, refused: BTreeMap::new() }
+        Tally { call, accepted: 0, board_sizes: BTreeSet::new(), refused: BTreeMap::new() }
     }
 
     fn count(&mut self, input: &Input, answer: Answer) {
         let Err(Refusal { number, index }) = answer else {
             self.accepted += 1;
+            self.board_sizes.insert(input.board.len() / BOARD_RECORD);
             return;
         };
         let (part, records) = at_fault(self.call, input, number);
@@ -170,8 +168,8 @@ impl Tally {
                 }
             }
         }
-        if self.accepted == 0 {
-            missing.push(format!("{:?}: no input was accepted", self.call));
+        if self.board_sizes.len() <= MOST_PHYS {
+            missing.push(format!("{:?}: only boards of {:?} PHYs were accepted", self.call, self.board_sizes));
         }
         missing
     }

@@ -7,8 +7,8 @@ use taksherub_host::door::DOOR;
 use taksherub_host::make::{self, event, phy, read, write};
 use taksherub_host::model::records::{LOG_RECORD, MOST_STEPS};
 
-const ROUNDS: usize = 15;
-const RUNS_A_ROUND: usize = 20;
+const ROUNDS: usize = 200;
+const RUNS_A_ROUND: usize = 5;
 
 fn main() {
     let board: Vec<u8> = (0..32).flat_map(|address| phy(address, 0x0000000F, &[(0, 0x3000), (1, 0x7849)], &[])).collect();
