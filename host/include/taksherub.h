@@ -1,0 +1,106 @@
+/* The bench through C: the proved code of crates/door.
+ *
+ * Link target/staticlib/libdoor.a (x86-64, written by `rt staticlib door`).
+ *
+ * Every call answers 0 when done, else number * 65536 + index: the number of
+ * the refusal and the index, from 0, of the record at fault. TAKSHERUB_NUMBER
+ * and TAKSHERUB_INDEX take an answer apart. The index is 0 for refusals 1, 2,
+ * 10 and 13.
+ *
+ * A refusal writes nothing. Success writes the whole result from the output's
+ * start; the bytes behind it stay as they were.
+ *
+ * The first refusal that holds is given, in this order: board, list or steps,
+ * events, 13, 10. In a file: 1, then 2, then the records in order, each
+ * checked by rising number.
+ *
+ *     board   1  length is no whole number of 134-byte records
+ *             2  more than 32 records
+ *             3  address over 31, or the zero byte not zero
+ *             4  address already used by an earlier record
+ *             5  register set wrong
+ *             6  default or write mask wrong
+ *     list    1  length is no whole number of 6-byte records
+ *             2  more than 64 records
+ *             3  address or register over 31, the zero byte not zero, or a
+ *                read with data
+ *             7  op not 1 (write) or 2 (read)
+ *     steps   2  more than 4160 steps
+ *            11  a step over 3 (the index is the step's)
+ *     events  1  length is no whole number of 4-byte records
+ *             2  more than 256 records
+ *             8  code not 1 to 7, or address not on the board
+ *             9  clock below the one before it, or past the last clock
+ *     log    13  length is not 325 times the list's record count
+ *     output 10  shorter than the full result
+ *
+ * A pointer is never null, not even with length 0, and points to as many bytes
+ * as the length behind it says. The output overlaps no input. Nothing is kept
+ * after the call, and calls share no state: threads may call at the same time.
+ */
+#ifndef TAKSHERUB_H
+#define TAKSHERUB_H
+
+#include <stddef.h>
+#include <stdint.h>
+
+#define TAKSHERUB_NUMBER(answer) ((unsigned)((answer) >> 16))
+#define TAKSHERUB_INDEX(answer) ((unsigned)((answer) & 0xFFFF))
+
+/* Lengths, in bytes. */
+#define TAKSHERUB_BOARD_RECORD 134
+#define TAKSHERUB_LIST_RECORD 6
+#define TAKSHERUB_EVENT_RECORD 4
+#define TAKSHERUB_ANSWER_RECORD 6
+#define TAKSHERUB_LOG_RECORD 5
+#define TAKSHERUB_CLOCKS 65 /* clocks, and so steps, of a transaction */
+#define TAKSHERUB_LOG_PART (TAKSHERUB_CLOCKS * TAKSHERUB_LOG_RECORD)
+
+#ifdef __cplusplus
+extern "C" {
+#endif
+
+/* Translates the list into clock steps, 65 for each record: 0 drive zero,
+ * 1 drive one, 2 release, 3 release and sample.
+ * Result: 65 bytes for each list record.
+ * Refusals in order: the list's 1, 2, then 3, 7 by record; 10. */
+uint64_t taksherub_translate(const uint8_t *list, size_t list_len,
+                             uint8_t *steps, size_t steps_len);
+
+/* Loads the board fresh and clocks any steps through the shared wire, the
+ * events between the clocks. The last clock is steps_len.
+ * Result: 5 bytes for each step, a log record: flags (1 level, 2 station
+ * drives, 4 two or more parties drive) and the mask of the PHYs that drive,
+ * by address, high byte first.
+ * Refusals in order: the board's 1, 2, then 3, 4, 5, 6 by record; the steps'
+ * 2, then 11 by step; the events' 1, 2, then 8, 9 by record; 10. */
+uint64_t taksherub_run(const uint8_t *board, size_t board_len,
+                       const uint8_t *steps, size_t steps_len,
+                       const uint8_t *events, size_t events_len,
+                       uint8_t *log, size_t log_len);
+
+/* Reads the answers to a list out of the log of its run.
+ * Result: 6 bytes for each list record, an answer record: status (0 write
+ * sent, 1 read answered, 2 read silent), op, address, register, data (2 bytes,
+ * high byte first).
+ * Refusals in order: the list's 1, 2, then 3, 7 by record; 13; 10. */
+uint64_t taksherub_decode(const uint8_t *list, size_t list_len,
+                          const uint8_t *log, size_t log_len,
+                          uint8_t *answers, size_t answers_len);
+
+/* Loads the board fresh and answers the list without a wire. The last clock is
+ * 65 times the list's record count. From a fresh load the answers are those of
+ * translate, run and decode.
+ * Result: 6 bytes for each list record, an answer record as above.
+ * Refusals in order: the board's 1, 2, then 3, 4, 5, 6 by record; the list's
+ * 1, 2, then 3, 7 by record; the events' 1, 2, then 8, 9 by record; 10. */
+uint64_t taksherub_plain(const uint8_t *board, size_t board_len,
+                         const uint8_t *list, size_t list_len,
+                         const uint8_t *events, size_t events_len,
+                         uint8_t *answers, size_t answers_len);
+
+#ifdef __cplusplus
+}
+#endif
+
+#endif

@@ -1,0 +1,48 @@
+//! Draws the transactions of a tray, clock by clock: `draw FOLDER [ORDINAL]`.
+
+use std::process::ExitCode;
+use std::{env, fs, path::Path};
+use taksherub_host::draw::draw;
+use taksherub_host::model::program::lines;
+use taksherub_host::model::records::{Transaction, ANSWER_RECORD, LIST_RECORD, LOG_RECORD};
+use taksherub_host::model::{decode, run, translate, Board, Refusal};
+
+fn main() -> ExitCode {
+    let arguments: Vec<String> = env::args().skip(1).collect();
+    let (folder, wanted) = match arguments.as_slice() {
+        [folder] => (folder, None),
+        [folder, ordinal] if ordinal.parse::<usize>().is_ok() => (folder, ordinal.parse().ok()),
+        _ => {
+            eprintln!("usage: draw FOLDER [ORDINAL], FOLDER with board.rec, list.rec and events.rec");
+            return ExitCode::from(2);
+        }
+    };
+    match drawings(Path::new(folder)) {
+        Ok(drawings) => {
+            let chosen =
+                drawings.iter().enumerate().filter(|(before, _)| wanted.is_none_or(|ordinal: usize| ordinal == before + 1));
+            chosen.for_each(|(_, drawing)| println!("{drawing}"));
+            ExitCode::SUCCESS
+        }
+        Err(Refusal { number, index }) => {
+            eprintln!("refused {number} at index {index}");
+            ExitCode::FAILURE
+        }
+    }
+}
+
+/// The line that the program prints for each transaction, and its drawing.
+fn drawings(folder: &Path) -> Result<Vec<String>, Refusal> {
+    let file = |name: &str| fs::read(folder.join(name)).unwrap_or_default();
+    let list = file("list.rec");
+    let count = list.len() / LIST_RECORD;
+    let mut steps = vec![0; count * Transaction::CLOCKS];
+    let mut log = vec![0; steps.len() * LOG_RECORD];
+    let mut answers = vec![0; count * ANSWER_RECORD];
+    let mut board = Board::load(&file("board.rec"))?;
+    translate(&list, &mut steps)?;
+    run(&mut board, &steps, &file("events.rec"), &mut log)?;
+    decode(&list, &log, &mut answers)?;
+    let parts = steps.chunks(Transaction::CLOCKS).zip(log.chunks(Transaction::CLOCKS * LOG_RECORD));
+    Ok(lines(&answers).lines().zip(parts).map(|(line, (steps, log))| format!("{line}\n{}", draw(steps, log))).collect())
+}

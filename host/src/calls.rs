@@ -1,0 +1,76 @@
+//! The four calls of the door as a table of functions, so that any two builds of them can be held against each other.
+
+use crate::model::records::{Transaction, ANSWER_RECORD, LIST_RECORD, LOG_RECORD};
+use crate::model::{self, Board, Refusal};
+
+pub type Answer = Result<(), Refusal>;
+
+/// A machine that loads its board fresh and works off steps or a list.
+pub type Machine = fn(board: &[u8], work: &[u8], events: &[u8], output: &mut [u8]) -> Answer;
+
+#[derive(Clone, Copy)]
+pub struct Calls {
+    pub translate: fn(list: &[u8], steps: &mut [u8]) -> Answer,
+    pub run: Machine,
+    pub decode: fn(list: &[u8], log: &[u8], answers: &mut [u8]) -> Answer,
+    pub plain: Machine,
+}
+
+/// The independent model.
+pub const MODEL: Calls = Calls {
+    translate: model::translate,
+    run: |board, steps, events, log| model::run(&mut Board::load(board)?, steps, events, log),
+    decode: model::decode,
+    plain: |board, list, events, answers| model::plain(&mut Board::load(board)?, list, events, answers),
+};
+
+/// The files of one call, those it does not take unused, and the length of its output.
+#[derive(Clone, Debug, Default)]
+pub struct Input {
+    pub board: Vec<u8>,
+    pub list: Vec<u8>,
+    pub steps: Vec<u8>,
+    pub events: Vec<u8>,
+    pub log: Vec<u8>,
+    pub room: usize,
+}
+
+#[derive(Clone, Copy, Debug, PartialEq, Eq)]
+pub enum Call {
+    Translate,
+    Run,
+    Decode,
+    Plain,
+}
+
+impl Call {
+    pub const ALL: [Call; 4] = [Call::Translate, Call::Run, Call::Decode, Call::Plain];
+
+    /// The bytes of the full result, if the input is good.
+    pub fn full_size(self, input: &Input) -> usize {
+        let transactions = input.list.len() / LIST_RECORD;
+        match self {
+            Call::Translate => transactions * Transaction::CLOCKS,
+            Call::Run => input.steps.len() * LOG_RECORD,
+            Call::Decode | Call::Plain => transactions * ANSWER_RECORD,
+        }
+    }
+
+    /// The number of the last clock, after which an event may still act.
+    pub fn last_clock(self, input: &Input) -> usize {
+        match self {
+            Call::Run => input.steps.len(),
+            _ => Call::Translate.full_size(input),
+        }
+    }
+
+    pub fn answer(self, calls: &Calls, input: &Input, output: &mut [u8]) -> Answer {
+        let Input { board, list, steps, events, log, .. } = input;
+        match self {
+            Call::Translate => (calls.translate)(list, output),
+            Call::Run => (calls.run)(board, steps, events, output),
+            Call::Decode => (calls.decode)(list, log, output),
+            Call::Plain => (calls.plain)(board, list, events, output),
+        }
+    }
+}

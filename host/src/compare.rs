@@ -1,0 +1,337 @@
+//! Two builds of the four calls on the same inputs: the same answer and the same bytes, past the result and after a refusal too.
+
+use crate::calls::{Answer, Call, Calls, Input};
+use crate::generate;
+use crate::model::records::*;
+use crate::model::Board;
+use crate::random::Random;
+use std::collections::{BTreeMap, BTreeSet};
+use std::fmt;
+
+const SEED: u64 = 0x7461_6B73_6865_7275;
+
+/// Bytes behind the lent output that no call may touch.
+const GUARD: usize = 16;
+
+fn pattern(at: usize) -> u8 {
+    0x80 | (at * 37 % 127) as u8
+}
+
+/// One side's answer and its output, guard bytes included; or what it wrote and should not have.
+fn one_side(call: Call, calls: &Calls, input: &Input) -> Result<(Answer, Vec<u8>), String> {
+    let mut output: Vec<u8> = (0..input.room + GUARD).map(pattern).collect();
+    let answer = call.answer(calls, input, &mut output[..input.room]);
+    let written = if answer.is_ok() { call.full_size(input) } else { 0 };
+    if written > input.room {
+        return Err(format!("accepted {} bytes of output where {written} are needed", input.room));
+    }
+    match (written..output.len()).find(|&at| output[at] != pattern(at)) {
+        Some(at) => Err(format!("{answer:?}, and byte {at} of the output, which should stay, changed")),
+        None => Ok((answer, output)),
+    }
+}
+
+/// The answer in which both sides agree, or how they differ.
+pub fn compare(call: Call, left: &Calls, right: &Calls, input: &Input) -> Result<Answer, String> {
+    let differ = |what: String| format!("{call:?}: {what}\n{}", describe(input));
+    let (answer, output) = one_side(call, left, input).map_err(|what| differ(format!("the left side: {what}")))?;
+    let (other, bytes) = one_side(call, right, input).map_err(|what| differ(format!("the right side: {what}")))?;
+    if answer != other {
+        return Err(differ(format!("answers {answer:?} and {other:?}")));
+    }
+    match output.iter().zip(&bytes).position(|(ours, theirs)| ours != theirs) {
+        Some(at) => Err(differ(format!("byte {at} of the output is {} and {}", output[at], bytes[at]))),
+        None => Ok(answer),
+    }
+}
+
+/// The input's files in hex digits, so that a difference can be tried again by hand.
+fn describe(input: &Input) -> String {
+    let Input { board, list, steps, events, log, room } = input;
+    let mut text = format!("output of {room} bytes");
+    for (name, file) in [("board", board), ("list", list), ("steps", steps), ("events", events), ("log", log)] {
+        let digits: String = file.iter().map(|byte| format!("{byte:02x}")).collect();
+        text += &format!("\n{name}, {} bytes: {digits}", file.len());
+    }
+    text
+}
+
+/// What a refusal found fault with.
+#[derive(Clone, Copy, Debug, PartialEq, Eq, PartialOrd, Ord)]
+pub enum Part {
+    Board,
+    List,
+    Steps,
+    Events,
+    Log,
+    Output,
+}
+
+/// The numbers that each part can be refused by.
+const NUMBERS: [(Part, &[u8]); 6] = [
+    (Part::Board, &[1, 2, 3, 4, 5, 6]),
+    (Part::List, &[1, 2, 3, 7]),
+    (Part::Steps, &[2, 11]),
+    (Part::Events, &[1, 2, 8, 9]),
+    (Part::Log, &[13]),
+    (Part::Output, &[10]),
+];
+
+fn parts(call: Call) -> &'static [Part] {
+    match call {
+        Call::Translate => &[Part::List, Part::Output],
+        Call::Run => &[Part::Board, Part::Steps, Part::Events, Part::Output],
+        Call::Decode => &[Part::List, Part::Log, Part::Output],
+        Call::Plain => &[Part::Board, Part::List, Part::Events, Part::Output],
+    }
+}
+
+/// Whether a refusal is of a whole part, and its index 0.
+fn of_the_whole(number: u8) -> bool {
+    matches!(number, Refusal::LENGTH | Refusal::TOO_MANY | Refusal::OUTPUT | Refusal::LOG_LENGTH)
+}
+
+/// The part at fault and its record count, by the order of the checks.
+fn at_fault(call: Call, input: &Input, number: u8) -> (Part, usize) {
+    let bad = |part: &&Part| match part {
+        Part::Board => Board::load(&input.board).is_err(),
+        Part::List => list(&input.list).is_err(),
+        Part::Steps => check_steps(&input.steps).is_err(),
+        _ => true,
+    };
+    let part = match number {
+        Refusal::OUTPUT => Part::Output,
+        Refusal::LOG_LENGTH => Part::Log,
+        _ => *parts(call).iter().find(bad).expect("the output's room comes last"),
+    };
+    let count = match part {
+        Part::Board => input.board.len() / BOARD_RECORD,
+        Part::List => input.list.len() / LIST_RECORD,
+        Part::Steps => input.steps.len(),
+        Part::Events => input.events.len() / EVENT_RECORD,
+        Part::Log | Part::Output => 0,
+    };
+    (part, count)
+}
+
+/// How often a call was accepted, and refused by which number where: at the first, a middle, the last record.
+pub struct Tally {
+    call: Call,
+    accepted: usize,
+    /// The PHY counts of the accepted boards.
+    board_sizes: BTreeSet<usize>,
+    refused: BTreeMap<(Part, u8), [usize; 3]>,
+}
+
+impl Tally {
+    fn new(call: Call) -> Tally {
+        Tally { call, accepted: 0, board_sizes: BTreeSet::new(), refused: BTreeMap::new() }
+    }
+
+    fn count(&mut self, input: &Input, answer: Answer) {
+        let Err(Refusal { number, index }) = answer else {
+            self.accepted += 1;
+            self.board_sizes.insert(input.board.len() / BOARD_RECORD);
+            return;
+        };
+        let (part, records) = at_fault(self.call, input, number);
+        let place = match index {
+            0 => 0,
+            _ if index + 1 < records => 1,
+            _ => 2,
+        };
+        self.refused.entry((part, number)).or_default()[place] += 1;
+    }
+
+    fn met(&self, part: Part, number: u8) -> [usize; 3] {
+        self.refused.get(&(part, number)).copied().unwrap_or_default()
+    }
+
+    /// The refusals that this call can give.
+    fn reachable(&self) -> impl Iterator<Item = (Part, u8)> + '_ {
+        let mine = NUMBERS.iter().filter(|(part, _)| parts(self.call).contains(part));
+        mine.flat_map(|(part, numbers)| numbers.iter().map(|number| (*part, *number)))
+    }
+
+    /// The reachable refusals that no input met, in words.
+    fn missing(&self) -> Vec<String> {
+        let mut missing = Vec::new();
+        for (part, number) in self.reachable() {
+            let wanted: &[(usize, &str)] = match number {
+                whole if of_the_whole(whole) => &[(0, "")],
+                Refusal::REPEATED_ADDRESS => &[(1, " at a middle record"), (2, " at the last record")],
+                _ => &[(0, " at the first record"), (1, " at a middle record"), (2, " at the last record")],
+            };
+            for (place, words) in wanted {
+                if self.met(part, number)[*place] == 0 {
+                    missing.push(format!("{:?}: refusal {number} of the {part:?}{words} was never met", self.call));
+                }
+            }
+        }
+        if self.board_sizes.len() <= MOST_PHYS {
+            missing.push(format!("{:?}: only boards of {:?} PHYs were accepted", self.call, self.board_sizes));
+        }
+        missing
+    }
+}
+
+impl fmt::Display for Tally {
+    fn fmt(&self, f: &mut fmt::Formatter) -> fmt::Result {
+        let by_number = |number| {
+            self.refused.iter().filter(|((_, n), _)| *n == number).map(|(_, met)| met.iter().sum::<usize>()).sum::<usize>()
+        };
+        let refused: usize = (1..=13).map(by_number).sum();
+        let name = format!("{:?}", self.call).to_lowercase();
+        write!(f, "{name}: {} inputs, {} accepted; refused by number:", self.accepted + refused, self.accepted)?;
+        for number in (1..=13).filter(|&number| by_number(number) > 0) {
+            write!(f, " {number}: {},", by_number(number))?;
+        }
+        writeln!(f, " in all {refused}")?;
+        for (part, number) in self.reachable() {
+            let [first, middle, last] = self.met(part, number);
+            let part = format!("{part:?}").to_lowercase();
+            if of_the_whole(number) {
+                writeln!(f, "    {part:<6} {number:>2}  {first:>6}")?;
+            } else {
+                writeln!(
+                    f,
+                    "    {part:<6} {number:>2}  {first:>6} at the first record, {middle:>5} at a middle one, {last:>5} at the last"
+                )?;
+            }
+        }
+        Ok(())
+    }
+}
+
+/// The limits and `count` generated inputs for each call. What was met, or the first difference, or what was never met.
+pub fn compare_all(left: &Calls, right: &Calls, count: usize) -> Result<Vec<Tally>, String> {
+    for generate::Limit { what, call, input, answer: expected } in generate::limits() {
+        let answer = compare(call, left, right, &input)?;
+        if answer != expected {
+            return Err(format!("{call:?}: {what}: both answer {answer:?}, the document {expected:?}\n{}", describe(&input)));
+        }
+    }
+    let mut random = Random::new(SEED);
+    let mut tallies = Call::ALL.map(Tally::new);
+    for tally in &mut tallies {
+        for _ in 0..count {
+            let input = generate::input(&mut random, tally.call);
+            let answer = compare(tally.call, left, right, &input)?;
+            tally.count(&input, answer);
+        }
+    }
+    let missing: Vec<String> = tallies.iter().flat_map(Tally::missing).collect();
+    if missing.is_empty() {
+        Ok(tallies.into())
+    } else {
+        Err(missing.join("\n"))
+    }
+}
+
+#[cfg(test)]
+mod tests {
+    use super::*;
+    use crate::calls::MODEL;
+
+    const COUNT: usize = 5_000;
+
+    #[test]
+    fn the_model_agrees_with_itself_and_every_refusal_is_met() {
+        let tallies = compare_all(&MODEL, &MODEL, COUNT);
+        assert_eq!(tallies.map(|tallies| tallies.len()), Ok(4));
+    }
+
+    /// A build that is wrong on purpose must be caught, on either side.
+    fn caught(broken: Calls) {
+        assert!(compare_all(&MODEL, &broken, COUNT).is_err());
+        assert!(compare_all(&broken, &MODEL, COUNT).is_err());
+    }
+
+    fn refuse_all(_: &[u8], _: &[u8], _: &[u8], _: &mut [u8]) -> Answer {
+        Err(Refusal { number: 2, index: 0 })
+    }
+
+    #[test]
+    fn the_one_that_refuses_all_is_caught() {
+        caught(Calls { run: refuse_all, ..MODEL });
+        caught(Calls { plain: refuse_all, ..MODEL });
+    }
+
+    #[test]
+    fn the_one_that_leaves_the_output_untouched_is_caught() {
+        caught(Calls { translate: |list, steps| (MODEL.translate)(list, &mut steps.to_vec()), ..MODEL });
+        caught(Calls { decode: |list, log, answers| (MODEL.decode)(list, log, &mut answers.to_vec()), ..MODEL });
+    }
+
+    #[test]
+    fn an_invented_index_is_caught() {
+        caught(Calls {
+            translate: |list, steps| (MODEL.translate)(list, steps).map_err(|refusal| Refusal { index: 0, ..refusal }),
+            ..MODEL
+        });
+    }
+
+    #[test]
+    fn a_byte_past_the_result_is_caught() {
+        caught(Calls {
+            plain: |board, list, events, answers| {
+                (MODEL.plain)(board, list, events, answers)?;
+                answers.iter_mut().skip(list.len()).take(1).for_each(|byte| *byte = 0);
+                Ok(())
+            },
+            ..MODEL
+        });
+    }
+
+    #[test]
+    fn a_byte_written_before_a_refusal_is_caught() {
+        caught(Calls {
+            decode: |list, log, answers| {
+                (MODEL.decode)(list, log, answers).inspect_err(|_| answers.first_mut().map_or((), |byte| *byte = 0))
+            },
+            ..MODEL
+        });
+    }
+
+    #[test]
+    fn latches_that_clear_a_clock_late_are_caught() {
+        caught(Calls {
+            plain: |board, list, events, answers| {
+                let mut early = events.to_vec();
+                for event in early.as_chunks_mut::<EVENT_RECORD>().0 {
+                    let clock = word(event[0], event[1]);
+                    if clock % 65 == 46 {
+                        event[..2].copy_from_slice(&(clock - 1).to_be_bytes());
+                    }
+                }
+                (MODEL.plain)(board, list, events, answers).and_then(|()| (MODEL.plain)(board, list, &early, answers).or(Ok(())))
+            },
+            ..MODEL
+        });
+    }
+
+    #[test]
+    fn a_log_without_contention_is_caught() {
+        caught(Calls {
+            run: |board, steps, events, log| {
+                (MODEL.run)(board, steps, events, log)?;
+                log[..steps.len() * LOG_RECORD].iter_mut().step_by(LOG_RECORD).for_each(|flags| *flags &= 3);
+                Ok(())
+            },
+            ..MODEL
+        });
+    }
+
+    #[test]
+    fn a_fake_of_the_later_transactions_is_caught() {
+        caught(Calls {
+            run: |board, steps, events, log| {
+                (MODEL.run)(board, steps, events, log)?;
+                let later = 325.min(steps.len() * LOG_RECORD)..steps.len() * LOG_RECORD;
+                log[later].iter_mut().skip(4).step_by(LOG_RECORD).for_each(|low| *low = 0);
+                Ok(())
+            },
+            ..MODEL
+        });
+    }
+}

@@ -1,0 +1,47 @@
+//! Records from values, and steps from records, for tests and measurements.
+
+use crate::model::records::{Transaction, LIST_RECORD};
+use crate::model::translate;
+
+/// A board record.
+pub fn phy(address: u8, implemented: u32, defaults: &[(usize, u16)], write_masks: &[(usize, u16)]) -> Vec<u8> {
+    let mut record = vec![address, 0];
+    record.extend(implemented.to_be_bytes());
+    for words in [defaults, write_masks] {
+        let mut registers = [0u16; 32];
+        for &(register, word) in words {
+            registers[register] = word;
+        }
+        record.extend(registers.iter().flat_map(|word| word.to_be_bytes()));
+    }
+    record
+}
+
+/// Board P of document 01.
+pub fn board_p() -> Vec<u8> {
+    phy(1, 0x0000000F, &[(0, 0x3000), (1, 0x7849)], &[])
+}
+
+/// A list record.
+pub fn write(address: u8, register: u8, data: u16) -> [u8; 6] {
+    let [high, low] = data.to_be_bytes();
+    [1, address, register, 0, high, low]
+}
+
+/// A list record.
+pub fn read(address: u8, register: u8) -> [u8; 6] {
+    [2, address, register, 0, 0, 0]
+}
+
+/// An event record.
+pub fn event(clock: u16, address: u8, code: u8) -> [u8; 4] {
+    let [high, low] = clock.to_be_bytes();
+    [high, low, address, code]
+}
+
+/// The steps of a good list.
+pub fn steps(list: &[u8]) -> Vec<u8> {
+    let mut steps = vec![0; list.len() / LIST_RECORD * Transaction::CLOCKS];
+    translate(list, &mut steps).expect("the list is good");
+    steps
+}

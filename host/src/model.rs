@@ -1,0 +1,17 @@
+//! The bench as document 01 describes it: its files, the PHY, the wire, and the plain machine that has no wire.
+
+pub mod board;
+pub mod phy;
+pub mod plain;
+pub mod program;
+pub mod records;
+pub mod wire;
+
+#[cfg(test)]
+mod tests;
+
+pub use board::Board;
+pub use plain::plain;
+pub use program::program;
+pub use records::Refusal;
+pub use wire::{decode, run, translate};
