@@ -3,3 +3,4 @@ pub mod Events
 pub mod Log
 pub mod Run
 pub mod Plain
+pub mod Lines

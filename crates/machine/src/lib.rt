@@ -1,5 +1,8 @@
 // Two machines over one board: `run` on the wire, clock by clock, and `plain` without one (document 01, "Clock steps" and
 // the plain machine).
+mod hear;
+mod line;
+
 use board::Board;
 use verdict::Verdict;
 
