@@ -3,12 +3,12 @@ use Prim.Native.Nat.{ℕ, _+_, _*_, _/_, _%_}
 use mathlib.Core.Bool.{Bool, not, cond}
 use mathlib.Core.List.{List, [], _∷_, map}
 use lib.ListN.{length}
-use lib.Dec.{eqb}
+use lib.Dec.{eqb, ltb}
 use Rattle.verdict.specs.declared.Verdict.{Verdict}
 use Rattle.verdict.specs.Refusal.{wrongLogLength, _when_, refuse, andThen}
 use Rattle.verdict.specs.Bits.{valueOf}
 use Rattle.verdict.specs.File.{records}
-use Rattle.verdict.specs.Output.{tabulate, join, roomFor, Writes}
+use Rattle.verdict.specs.Output.{tabulate, join, written, roomFor, Writes}
 use Rattle.frame.specs.declared.list.Transaction.{Transaction}
 use Rattle.frame.specs.declared.answer.Answer.{Answer}
 use Rattle.frame.specs.declared.answer.Turnaround.{Turnaround}
@@ -37,6 +37,10 @@ answerTo t status word =
 abbrev pub answerBytes : Answer → List ℕ
 answerBytes a =
     a .status ∷ a .op ∷ a .address ∷ a .register ∷ a .«data» / 256 ∷ a .«data» % 256 ∷ []
+
+-- a part of an output with an answer's record at its start, where it fits
+unfoldable pub putIn : List ℕ → Answer → List ℕ
+putIn part a = cond (ltb (length part) answerRecord) part (written (answerBytes a) part)
 
 -- what is learned of a read's turnaround: the level at its clock 48
 abbrev pub turnaroundIn : List ℕ → Turnaround

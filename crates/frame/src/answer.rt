@@ -8,9 +8,8 @@ use verdict::Verdict;
 use verdict::byte_at;
 ghost use mathlib.Core.Path.{_≡_};
 ghost use Prim.Native.Nat.{_≤_};
-ghost use lib.ListN.{length};
 ghost use Rattle.frame.specs.Log.{levelAt};
-ghost use Rattle.frame.specs.Answers.{wordIn, turnaroundIn, isAnswered, answerTo, answerIn, answerBytes, Decoded};
+ghost use Rattle.frame.specs.Answers.{wordIn, turnaroundIn, isAnswered, answerTo, answerIn, putIn, Decoded};
 
 pub struct Answer {
     pub status: u8,
@@ -30,11 +29,13 @@ impl Answer {
 
     pub const BYTES: usize = 6;
 
-    // Writes the answer's record to the start of a part of the output.
-    fn put(self, part: &mut [u8])
-        requires { ⌜ 6 ≡ length (now part) ⌝ }
-        ensures { λ r. ⌜ now (part .exit) ≡ answerBytes self ⌝ }
+    // Writes the answer's record to the start of a part of the output; where it does not fit nothing is written.
+    pub fn put(self, part: &mut [u8])
+        ensures { λ r. ⌜ now (part .exit) ≡ putIn (now (part .entry)) self ⌝ }
     {
+        if part.len() < Answer::BYTES {
+            return;
+        }
         part[0] = self.status;
         part[1] = self.op;
         part[2] = self.address;

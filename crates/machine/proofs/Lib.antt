@@ -1,2 +1,4 @@
+pub mod Places
+pub mod Happenings
 pub mod Lines
 pub mod Turns

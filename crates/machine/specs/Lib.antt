@@ -1,5 +1,6 @@
 pub mod Outcome
 pub mod Events
+pub mod Acts
 pub mod Log
 pub mod Run
 pub mod Plain

@@ -1,5 +1,7 @@
 // Two machines over one board: `run` on the wire, clock by clock, and `plain` without one (document 01, "Clock steps" and
 // the plain machine).
+mod acts;
+mod events;
 mod hear;
 mod line;
 

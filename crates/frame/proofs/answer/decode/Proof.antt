@@ -14,7 +14,7 @@ use Rattle.frame.specs.declared.answer.Answer.{Answer}
 use Rattle.frame.specs.List.{transactionAt, listVerdict}
 use Rattle.frame.specs.Log.{logPart}
 use Rattle.frame.specs.Answers.{answerBytes, answerIn}
-use Rattle.frame.proofs.Lists.{accepted-list}
+use Rattle.frame.proofs.Lists.{accepted-list, put-fills}
 use Rattle.frame.proofs.answer.decode.Statement.{statement}
 use Rattle.frame.proofs.answer.decode.Tie as tie
 
@@ -100,7 +100,7 @@ part-put-end : tie.Need-part-put-end Inv-loop μ-loop
 part-put-end c = omega (arith, room (c .before .before .before .before), few (c .before .before .before .before .before .before .before))
 
 put-requires : tie.Need-put-requires Inv-loop μ-loop
-put-requires c κs = omega (arith, c .put-arg .given .1)
+put-requires c κs = tt
 
 add-k : tie.Need-add-k Inv-loop μ-loop
 add-k c = omega (arith, few (c .before .before .before .before .before .before .before .before .before .before .before))
@@ -116,6 +116,7 @@ loop-again c =
     let k = c .before .before .before .before .before .before .before .before .loop .k in
     let puts =
     c .before .before .put .ensures
+    ∙ put-fills _ _ (omega (arith, c .before .before .before .put-arg .given .1))
     ∙ ap answerBytes (c .before .before .before .before .answer-in .ensures ∙ ap₂ answerIn (c .before .before .before .before .before .before .transaction-at .ensures) (c .before .before .before .before .before .log-part .ensures .bytes)) in (
       omega arith,
       rw (puts, c .before .before .before .before .before .before .before .before .loop .inv .1) (piece-next 6 (piece list log) (λ j. refl) out k),

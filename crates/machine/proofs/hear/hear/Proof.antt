@@ -2,7 +2,7 @@
 use Prim.Native.Nat.{ℕ, _≤_, _-_}
 use mathlib.Core.Path.{_≡_, refl, sym, ap, _∙_}
 use native.Mathlib.Omega.{arith}
-use lib.ListN.{length, getD, take, drop}
+use lib.ListN.{length, getD, take, drop, length-map}
 use borrow.Author.Needs.{needs}
 use Rattle.machine.specs.Lines.{heardFrom}
 use Rattle.machine.proofs.hear.hear.Statement.{statement}
@@ -17,6 +17,24 @@ abbrev μ-loop : tie.MeasureT-loop
 station-requires : tie.Need-station-requires Inv-loop μ-loop
 station-requires c κs = search needs
 
+try1 : (c : tie.Start Inv-loop μ-loop) → length (c .args .t1) ≡ 32
+try1 c = search needs
+
+try2 : (c : tie.Start Inv-loop μ-loop) → length (c .args .t1) ≡ 32
+try2 c = c .good .0 .1
+
+try3 : (c : tie.Start Inv-loop μ-loop) → length (c .args .t1) ≡ 32
+try3 c = simp length-map at (c .good .0 .1 .0 .1)
+
+try4 : (c : tie.Start Inv-loop μ-loop) → length (c .args .t1) ≡ 32
+try4 c = c .good .0 .1 .1
+
+try5 : (c : tie.Start Inv-loop μ-loop) → length (c .args .t1) ≡ 32
+try5 c = c .good .0 .0
+
+try6 : (c : tie.Start Inv-loop μ-loop) → length (c .args .t1) ≡ 32
+try6 c = simp length-map at (c .good .0 .1)
+
 loop-holds : tie.Need-loop-holds Inv-loop μ-loop
 loop-holds c = (search needs, refl)
 
@@ -27,7 +45,7 @@ array-copy-out-line : tie.Need-array-copy-out-line Inv-loop μ-loop
 array-copy-out-line c = search needs
 
 with-requires : tie.Need-with-requires Inv-loop μ-loop
-with-requires c κs = let x : _≡_ {A = ℕ} 0 1 = c .before .before .before .before .good in ?
+with-requires c κs = ?
 
 add-i : tie.Need-add-i Inv-loop μ-loop
 add-i c = search needs

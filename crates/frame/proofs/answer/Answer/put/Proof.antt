@@ -1,14 +1,17 @@
--- Six stores fill a part of six bytes.
-use mathlib.Core.Path.{_∙_, ap}
-use mathlib.Core.List.{_++_}
-use Prim.Native.Nat.{_≤_}
-use lib.ListN.{length, drop-of-length-le, length-set}
-use lib.Seq.{sets-eq}
-use Rattle.frame.specs.Answers.{answerBytes}
-use native.Mathlib.Omega.{arith}
+-- Six stores at the start of a part that has room for them.
 use borrow.Author.Needs.{needs}
 use Rattle.frame.proofs.answer.Answer.put.Statement.{statement}
 use Rattle.frame.proofs.answer.Answer.put.Tie as tie
+use Prim.Native.Nat.{_≤_}
+use lib.ListN.{length, length-set}
+use borrow.Author.Tests.{lt-ltb, le-ltb}
+use lib.Seq.{sets-eq}
+use Rattle.frame.specs.Answers.{answerBytes, putIn}
+use native.Mathlib.Omega.{arith}
+
+returns : tie.Need-returns
+unfolding putIn
+returns c = rw (lt-ltb _ 6 (c .if1 .taken))
 
 slice-write-part : tie.Need-slice-write-part
 slice-write-part c = search needs
@@ -37,17 +40,18 @@ slice-write-part-6 c = simp length-set (omega arith)
 same-length : tie.Need-same-length
 same-length c = search needs
 
-returns : tie.Need-returns
-returns c =
-    let part = c .before .before .args .part .now in
-    let bytes = answerBytes (c .before .before .args .self) in
-    let full : length part ≤ 6 = omega arith in
-    sets-eq bytes part 0 (omega arith) ∙ ap (λ xs. bytes ++ xs) (drop-of-length-le part full)
+returns-2 : tie.Need-returns-2
+unfolding putIn
+returns-2 c =
+    let args = c .before .before .before .args in
+    let fits : 6 ≤ length (args .part .now) = omega arith in
+    rw (le-ltb (length (args .part .now)) 6 fits) (sets-eq (answerBytes (args .self)) (args .part .now) 0 (omega arith))
 
 pub put-spec : {M : Type 1} → statement M
 put-spec =
     tie.close
     (tie.spec
+    returns
     slice-write-part
     slice-write-part-2
     slice-write-part-3
@@ -57,4 +61,4 @@ put-spec =
     cast-part-2
     slice-write-part-6
     same-length
-    returns)
+    returns-2)

@@ -23,19 +23,19 @@ bit-of-requires-2 : tie.Need-bit-of-requires-2
 bit-of-requires-2 c κs = search needs
 
 mul-part-2 : tie.Need-mul-part-2
-mul-part-2 c = omega (arith, c .bit-of2 .ensures, bit-small (c .before .before .args .self .station))
+mul-part-2 c = omega (arith, c .bit-of2 .ensures, bit-small (c .before .before .before .args .self .station))
 
 add-part : tie.Need-add-part
-add-part c = omega (arith, c .before .bit-of .ensures, bit-small (c .before .before .args .self .level), c .bit-of2 .ensures, bit-small (c .before .before .args .self .station))
+add-part c = omega (arith, c .before .bit-of .ensures, bit-small (c .before .before .before .args .self .level), c .bit-of2 .ensures, bit-small (c .before .before .before .args .self .station))
 
 bit-of-requires-3 : tie.Need-bit-of-requires-3
 bit-of-requires-3 c κs = search needs
 
 mul-part-3 : tie.Need-mul-part-3
-mul-part-3 c = omega (arith, c .bit-of3 .ensures, bit-small (c .before .before .before .args .self .several))
+mul-part-3 c = omega (arith, c .bit-of3 .ensures, bit-small (c .before .before .before .before .args .self .several))
 
 add-part-2 : tie.Need-add-part-2
-add-part-2 c = omega (arith, c .before .before .bit-of .ensures, bit-small (c .before .before .before .args .self .level), c .before .bit-of2 .ensures, bit-small (c .before .before .before .args .self .station), c .bit-of3 .ensures, bit-small (c .before .before .before .args .self .several))
+add-part-2 c = omega (arith, c .before .before .bit-of .ensures, bit-small (c .before .before .before .before .args .self .level), c .before .bit-of2 .ensures, bit-small (c .before .before .before .before .args .self .station), c .bit-of3 .ensures, bit-small (c .before .before .before .before .args .self .several))
 
 slice-write-part : tie.Need-slice-write-part
 slice-write-part c = search needs

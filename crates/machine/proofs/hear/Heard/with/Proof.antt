@@ -24,7 +24,7 @@ enum-told c = search needs
 returns : tie.Need-returns
 unfolding hearsDrive
 returns c =
-    let released = sym (c .before .before .before .drives .ensures) ∙ c .enum-told .given .1 in
+    let released = sym (c .before .before .drives .ensures) ∙ c .enum-told .given .1 in
     rw (released, c .before .before .before .before .acts .ensures)
 
 cast-t8 : tie.Need-cast-t8
@@ -37,7 +37,7 @@ returns-2 : tie.Need-returns-2
 unfolding hearsDrive
 returns-2 c =
     let start = c .before .before .before .before .before .before .before .before .before .before in
-    let driven = sym (c .before .before .before .before .before .before .before .before .drives .ensures) ∙ c .before .before .before .before .before .drive .given .1 in
+    let driven = sym (c .before .before .before .before .before .before .before .drives .ensures) ∙ c .before .before .before .before .before .drive .given .1 in
     rw (driven, c .before .before .before .before .before .before .before .before .before .acts .ensures)
     (ap (λ (m : ℕ). record { level = start .args .self .level && c .before .before .before .before .before .drive .given .0 .0; station = start .args .self .station; some = true; several = start .args .self .several || start .args .self .some; mask = m; acts = start .args .self .acts || lineActs (start .args .line) })
     (mark-set (start .args .self .mask) (start .args .line .address) (start .pre)))

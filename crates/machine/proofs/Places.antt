@@ -1,0 +1,64 @@
+-- The PHYs of a board and the board with others in their places; and how a loop replaces one after the other.
+use Prim.Native.Nat.{ℕ, zero, suc, _+_, _<_}
+use mathlib.Core.Path.{_≡_, refl, ap, _∙_}
+use mathlib.Core.List.{List, [], _∷_, _++_, map}
+use native.Mathlib.Omega.{arith}
+use native.Mathlib.Numerals.{add-one}
+use lib.ListN.{length, getD, take, drop, set, take-append-drop}
+use Rattle.phy.specs.declared.Phy.{Phy}
+use Rattle.board.specs.declared.Board.{Board}
+use Rattle.machine.specs.Outcome.{physOf, withPhys}
+
+module _ {A : Type 0} (f : A → A) where
+  -- the first i elements replaced, the others as they stood
+  abbrev pub replaced : ℕ → List A → List A
+  replaced i xs = map f (take i xs) ++ drop i xs
+
+  turn : (i : ℕ) (xs : List A) (d : A) → i < length xs → set (replaced i xs) i (f (getD (replaced i xs) i d)) ≡ replaced (suc i) xs
+  turn i [] d h = absurd (omega arith)
+  turn zero (x ∷ xs) d h = refl
+  turn (suc i) (x ∷ xs) d h = ap (λ (ys : List A). f x ∷ ys) (turn i xs d (omega arith))
+
+  -- one more
+  pub replace-next : (i : ℕ) (xs ys : List A) (d v : A) → i < length xs → ys ≡ replaced i xs → v ≡ f (getD ys i d) → set ys i v ≡ replaced (i + 1) xs
+  replace-next i xs ys d v within so-far here = rw (here, so-far, add-one) (turn i xs d within)
+
+module _ {A : Type 0} where
+  -- where as many stand in front as n elements were, they are the first n, and the others are those after n
+  front : (n : ℕ) (xs ys : List A) → length ys ≡ length (take n xs) → take n (ys ++ drop n xs) ≡ ys
+  front zero xs [] same = refl
+  front zero xs (y ∷ ys) same = absurd (omega arith)
+  front (suc n) [] [] same = refl
+  front (suc n) [] (y ∷ ys) same = absurd (omega arith)
+  front (suc n) (x ∷ xs) [] same = absurd (omega arith)
+  front (suc n) (x ∷ xs) (y ∷ ys) same = ap (λ (zs : List A). y ∷ zs) (front n xs ys (omega arith))
+
+  back : (n : ℕ) (xs ys : List A) → length ys ≡ length (take n xs) → drop n (ys ++ drop n xs) ≡ drop n xs
+  back zero xs [] same = refl
+  back zero xs (y ∷ ys) same = absurd (omega arith)
+  back (suc n) [] [] same = refl
+  back (suc n) [] (y ∷ ys) same = absurd (omega arith)
+  back (suc n) (x ∷ xs) [] same = absurd (omega arith)
+  back (suc n) (x ∷ xs) (y ∷ ys) same = back n xs ys (omega arith)
+
+module _ (board : Board) where
+  -- the board with its own PHYs in their places
+  pub with-own : withPhys board (physOf board) ≡ board
+  with-own = λ i. record { count = board .count; phys = take-append-drop (board .count) (board .phys) i }
+
+  module _ (phys : List Phy) (same : length phys ≡ length (physOf board)) where
+    -- PHYs that were put in their places stand there
+    pub phys-of-with : physOf (withPhys board phys) ≡ phys
+    phys-of-with = front (board .count) (board .phys) phys same
+
+    -- and others come into the same places
+    pub with-with : (others : List Phy) → withPhys (withPhys board phys) others ≡ withPhys board others
+    with-with others =
+        λ i. record { count = board .count; phys = others ++ back (board .count) (board .phys) phys same i }
+
+-- one change of the PHYs after another
+pub with-then : (board after : Board) (phys : List Phy) (change : List Phy → List Phy) → length phys ≡ length (physOf board) → after ≡ withPhys board phys → withPhys after (change (physOf after)) ≡ withPhys board (change phys)
+with-then board after phys change same e =
+    ap (λ b. withPhys b (change (physOf b))) e
+    ∙ ap (λ ps. withPhys (withPhys board phys) (change ps)) (phys-of-with board phys same)
+    ∙ with-with board phys same (change phys)
