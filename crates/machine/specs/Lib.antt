@@ -5,3 +5,4 @@ pub mod Log
 pub mod Run
 pub mod Plain
 pub mod Lines
+pub mod Clocks

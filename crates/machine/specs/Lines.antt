@@ -3,7 +3,7 @@ use Prim.Native.Nat.{ℕ, _+_, _*_, _-_}
 use mathlib.Core.Bool.{Bool, true, false, _&&_, _||_, cond}
 use mathlib.Core.List.{List, [], _∷_}
 use lib.ListN.{getD}
-use lib.Dec.{eqb, ltb}
+use lib.Dec.{eqb, ltb, leb}
 use Rattle.frame.specs.Frame.{headerBits, frameBits}
 use Rattle.frame.specs.List.{read}
 use Rattle.wire.specs.declared.Drive.{Drive}
@@ -19,7 +19,9 @@ use Rattle.phy.specs.Words.{setBit}
 use Rattle.phy.specs.Fields.{withLine}
 use Rattle.phy.specs.Sound.{nowhere}
 use Rattle.phy.specs.Clock.{enough, answerBit}
+use Rattle.verdict.specs.File.{records}
 use Rattle.verdict.specs.Output.{tabulate}
+use Rattle.board.specs.Events.{eventRecord, eventClock}
 use Rattle.board.specs.declared.Board.{Board}
 use Rattle.machine.specs.declared.line.Line.{Line}
 use Rattle.machine.specs.declared.hear.Heard.{Heard}
@@ -123,3 +125,7 @@ heardFrom heard (line ∷ lines) = heardFrom (hears line heard) lines
 unfoldable pub recordOf : Heard → List ℕ
 recordOf heard =
     (asBit (heard .level) * 1 + asBit (heard .station) * 2 + asBit (heard .several) * 4) ∷ fourBytes (heard .mask)
+
+-- whether the event record at an index comes up to a clock
+abbrev pub isDue : List ℕ → ℕ → ℕ → Bool
+isDue events next clock = ltb next (records eventRecord events) && leb (eventClock events next) clock

@@ -4,8 +4,10 @@ mod acts;
 mod events;
 mod hear;
 mod line;
+mod clocks;
 
 use board::Board;
+pub use clocks::run;
 use verdict::Verdict;
 
 // What a machine hands back.

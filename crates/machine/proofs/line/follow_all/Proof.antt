@@ -1,24 +1,22 @@
 -- Place by place: after i turns the first i lines have followed.
 use Prim.Native.Nat.{_≤_, _-_}
-use mathlib.Core.Path.{_≡_, refl, sym, ap, _∙_}
+use mathlib.Core.Path.{_≡_, refl, ap, _∙_}
 use native.Mathlib.Omega.{arith}
-use lib.ListN.{length, getD, length-map}
+use lib.ListN.{length}
 use borrow.Author.Needs.{needs}
-use Rattle.phy.specs.Sound.{nowhere}
-use Rattle.board.proofs.Filled.{filled, fill}
-use Rattle.machine.specs.Lines.{lineOf, lineFollows, noLine, onto, joinedBoard}
-use Rattle.machine.proofs.Turns.{within, next-place, tabulate-map}
+use Rattle.machine.specs.Lines.{lineFollows}
+use Rattle.machine.proofs.Places.{replaced, replace-next}
 use Rattle.machine.proofs.line.follow_all.Statement.{statement}
 use Rattle.machine.proofs.line.follow_all.Tie as tie
 
 abbrev Inv-loop : tie.InvT-loop
-Inv-loop count level lines₀ i₀ lines i = (i ≤ count) × (lines ≡ filled (λ k. lineFollows level (getD lines₀ k noLine)) lines₀ i)
+Inv-loop count level lines₀ i₀ lines i = (i ≤ count) × (lines ≡ replaced (lineFollows level) i lines₀)
 
 abbrev μ-loop : tie.MeasureT-loop
 μ-loop count level lines₀ i₀ lines i = count - i
 
 loop-holds : tie.Need-loop-holds Inv-loop μ-loop
-loop-holds c = ?
+loop-holds c = (search needs, refl)
 
 mul-line : tie.Need-mul-line Inv-loop μ-loop
 mul-line c = search needs
@@ -42,10 +40,18 @@ loop-less : tie.Need-loop-less Inv-loop μ-loop
 loop-less c = search needs
 
 loop-again : tie.Need-loop-again Inv-loop μ-loop
-loop-again c = ?
+loop-again c =
+    let start = c .before .before .before .before in
+    let loop = c .before .before .before .loop in
+    let long : length (start .args .t1) ≡ 32 = search needs in
+    (search needs, replace-next (lineFollows (start .args .level)) (loop .i) (start .args .t1) (loop .lines) _ (c .follows .result) (omega arith) (loop .inv .1) (c .follows .ensures))
 
 returns : tie.Need-returns Inv-loop μ-loop
-returns c = ?
+returns c =
+    let start = c .before .before in
+    let loop = c .before .loop in
+    let all : loop .i ≡ start .args .count = omega arith in
+    loop .inv .1 ∙ ap (λ k. replaced (lineFollows (start .args .level)) k (start .args .t1)) all
 
 pub follow-all-spec : {M : Type 1} → statement M
 follow-all-spec =

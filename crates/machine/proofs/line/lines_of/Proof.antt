@@ -2,12 +2,13 @@
 use Prim.Native.Nat.{_≤_, _-_}
 use mathlib.Core.Path.{_≡_, refl, sym, ap, _∙_}
 use native.Mathlib.Omega.{arith}
-use lib.ListN.{length, getD, length-map}
+use lib.ListN.{length, getD, replicate, length-map}
 use borrow.Author.Needs.{needs}
+use Rattle.verdict.specs.Output.{tabulate}
 use Rattle.phy.specs.Sound.{nowhere}
 use Rattle.board.proofs.Filled.{filled, fill}
-use Rattle.machine.specs.Lines.{lineOf, lineFollows, noLine, onto, joinedBoard}
-use Rattle.machine.proofs.Turns.{within, next-place, tabulate-map}
+use Rattle.machine.specs.Lines.{lineOf}
+use Rattle.machine.proofs.Turns.{filled-map}
 use Rattle.machine.proofs.line.lines_of.Statement.{statement}
 use Rattle.machine.proofs.line.lines_of.Tie as tie
 
@@ -24,7 +25,8 @@ of-requires : tie.Need-of-requires Inv-loop μ-loop
 of-requires c κs = search needs
 
 loop-holds : tie.Need-loop-holds Inv-loop μ-loop
-loop-holds c = ?
+unfolding tabulate
+loop-holds c = (search needs, refl)
 
 mul-of : tie.Need-mul-of Inv-loop μ-loop
 mul-of c = search needs
@@ -48,10 +50,17 @@ loop-less : tie.Need-loop-less Inv-loop μ-loop
 loop-less c = search needs
 
 loop-again : tie.Need-loop-again Inv-loop μ-loop
-loop-again c = ?
+loop-again c =
+    let loop = c .before .before .before .loop in
+    (search needs, fill _ _ (loop .lines) (loop .i) (c .of2 .result) (omega arith) (loop .inv .1) (c .of2 .ensures))
 
 returns : tie.Need-returns Inv-loop μ-loop
-returns c = ?
+returns c =
+    let phys = c .before .before .before .before .before .args .board .phys in
+    let loop = c .before .loop in
+    let places : length phys ≡ 32 = simp length-map at (c .before .before .before .before .before .good .0 .1 .1 .1 .0 .1 .0 .1) in
+    let all : loop .i ≡ 32 = omega arith in
+    loop .inv .1 ∙ rw all (filled-map lineOf phys nowhere (replicate 32 (c .before .before .of .result)) 32 places refl)
 
 pub lines-of-spec : {M : Type 1} → statement M
 lines-of-spec =
