@@ -6,3 +6,4 @@ pub mod Lockstep
 pub mod Quiet
 pub mod Stands
 pub mod Accepts
+pub mod Begins
