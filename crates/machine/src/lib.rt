@@ -1,10 +1,10 @@
 // Two machines over one board: `run` on the wire, clock by clock, and `plain` without one (document 01, "Clock steps" and
 // the plain machine).
 mod acts;
+mod clocks;
 mod events;
 mod hear;
 mod line;
-mod clocks;
 
 use board::Board;
 pub use clocks::run;

@@ -70,8 +70,7 @@ impl Line {
             return false;
         }
         (header.op == Transaction::READ)
-            & ((header.address == self.address)
-                & ((self.implemented >> header.register) % 2 == 1))
+            & ((header.address == self.address) & ((self.implemented >> header.register) % 2 == 1))
     }
 
     // What an answer drives after this many frame bits: 0 for bit 16, then the captured word.
