@@ -6,3 +6,11 @@ pub mod Transactions
 pub mod Reading
 pub mod Transacts
 pub mod Laws
+pub mod Lines
+pub mod Turns
+pub mod Lockstep
+pub mod Quiet
+pub mod Stands
+pub mod Accepts
+pub mod Begins
+pub mod Outcomes

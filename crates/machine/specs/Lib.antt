@@ -6,3 +6,5 @@ pub mod Run
 pub mod Plain
 pub mod Computing
 pub mod Transact
+pub mod Lines
+pub mod Clocks

@@ -60,6 +60,9 @@ module _ {f : Phy → Phy} (effect : Effect f) (phy : Phy) where
   pub keeps-record : recordOf (f phy) ≡ recordOf phy
   keeps-record = ap recordOf (effect .bank phy)
 
+  pub keeps-address : f phy .address ≡ phy .address
+  keeps-address = ap (λ p. p .address) (effect .bank phy)
+
   -- so the PHY answers and stores as before
   pub keeps-answers : (header : Header) → answers header (f phy) ≡ answers header phy
   unfolding answers implements

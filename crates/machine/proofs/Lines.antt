@@ -1,0 +1,61 @@
+-- What a line tells of its PHY: what it drives, and all of a clock in which it does not act.
+use Prim.Native.Nat.{ℕ, zero, suc, _*_, _%_, _^_, _≤_, _<_}
+use mathlib.Core.Path.{_≡_, refl, sym, ap, _∙_}
+use mathlib.Core.Bool.{Bool, true, false, cond}
+use native.Mathlib.Omega.{arith}
+use borrow.Author.Tests.{eq-eqb, ne-eqb, le-leb, lt-leb}
+use Rattle.wire.specs.declared.Drive.{Drive}
+use Rattle.wire.specs.declared.Drive.the-variants.{Released, Driven}
+use Rattle.wire.specs.declared.Follower.{Follower}
+use Rattle.wire.specs.declared.Follower.the-variants.{Hunting, Inside}
+use native.Mathlib.Nat.{mod-eq-of-lt, one-mul}
+use lib.Bits.{bitOr}
+use lib.Pow.{pow-lt}
+use Rattle.wire.specs.Wire.{asBit, stationDrive}
+use Rattle.wire.specs.Follower.{headerSeen}
+use Rattle.phy.specs.Words.{setBit}
+use Rattle.phy.proofs.Words.{or-bit}
+use Rattle.phy.specs.Clock.{answerBit}
+use Rattle.machine.specs.declared.line.Line.{Line}
+use Rattle.machine.specs.Lines.{lineAnswers, lineDrivesIn, lineDrives}
+
+-- hunting, nothing is driven
+pub drives-hunting : (line : Line) (ones : ℕ) → line .follower ≡ Hunting ones → lineDrives line ≡ Released
+unfolding lineDrivesIn
+drives-hunting line ones e = ap (λ (f : Follower). lineDrivesIn f line) e
+
+module _ (line : Line) (seen bits : ℕ) (now : line .follower ≡ Inside seen bits) where
+  pub drives-inside : lineDrives line ≡ cond (lineAnswers (headerSeen seen bits) line) (answerBit seen (line .captured)) Released
+  unfolding lineDrivesIn
+  drives-inside = ap (λ (f : Follower). lineDrivesIn f line) now
+
+  -- outside bits 16 to 32 nothing is driven
+  nothing : answerBit seen (line .captured) ≡ Released → lineDrives line ≡ Released
+  nothing e = drives-inside ∙ rw e (go (lineAnswers (headerSeen seen bits) line))
+    where
+      go : (t : Bool) → cond t Released Released ≡ Released
+      go true = refl
+      go false = refl
+
+  pub drives-early : seen < 15 → lineDrives line ≡ Released
+  drives-early h = nothing (rw (ne-eqb seen 15 (omega arith), lt-leb 16 seen (omega arith)))
+
+  pub drives-late : 31 < seen → lineDrives line ≡ Released
+  drives-late h = nothing (rw (ne-eqb seen 15 (omega arith), le-leb 16 seen (omega arith), lt-leb seen 31 h))
+
+-- a step that drives nothing
+pub station-released : (step : ℕ) → (step ≡ 0 → ⊥) → (step ≡ 1 → ⊥) → Released ≡ stationDrive step
+station-released zero n0 n1 = absurd (n0 refl)
+station-released (suc zero) n0 n1 = absurd (n1 refl)
+station-released (suc (suc step)) n0 n1 = refl
+
+-- a mask of 32 bits with one bit more
+pub mark-set : (mask address : ℕ) → address < 32 → bitOr mask (1 * 2 ^ address % 2 ^ 32) ≡ setBit address mask
+mark-set mask address h =
+    let small : 2 ^ address < 2 ^ 32 = pow-lt h in
+    let shifted : 1 * 2 ^ address % 2 ^ 32 ≡ 2 ^ address = ap (λ n. n % 2 ^ 32) (one-mul (2 ^ address)) ∙ mod-eq-of-lt small in
+    ap (bitOr mask) shifted ∙ or-bit address mask
+
+pub bit-small : (level : Bool) → asBit level ≤ 1
+bit-small true = omega arith
+bit-small false = omega arith

@@ -1,0 +1,168 @@
+-- A clock by the lines alone: what is heard of them is what the PHYs drive, and where none acts they follow by themselves.
+use Prim.Native.Nat.{ℕ, zero, suc, _+_, _*_, _≤_, _<_}
+use mathlib.Core.Path.{_≡_, refl, sym, ap, ap₂, _∙_}
+use mathlib.Core.Bool.{Bool, true, false, _&&_, _||_, cond, and-true, and-assoc}
+use mathlib.Core.List.{List, [], _∷_, map}
+use native.Mathlib.Omega.{arith}
+use lib.Dec.{leb, eqb}
+use borrow.Author.Tests.{le-leb}
+use Rattle.verdict.specs.Lists.{All}
+use Rattle.verdict.proofs.Elements.{map-then}
+use Rattle.wire.specs.declared.Drive.{Drive}
+use Rattle.wire.specs.declared.Drive.the-variants.{Released, Driven}
+use Rattle.wire.specs.declared.Follower.{Follower}
+use Rattle.wire.specs.declared.Follower.the-variants.{Hunting, Inside}
+use Rattle.wire.specs.Follower.{follow}
+use Rattle.wire.specs.Wire.{asBit, levelOf, drivers}
+use Rattle.phy.specs.declared.Phy.{Phy}
+use Rattle.phy.specs.Fields.{withLine, withFollower}
+use Rattle.phy.specs.Registers.{implements}
+use Rattle.phy.specs.Clock.{enough, answers, drivesIn, drives, acts, actsIn, clock}
+use Rattle.phy.proofs.Every.{neither}
+use Rattle.machine.specs.declared.line.Line.{Line}
+use Rattle.machine.specs.declared.hear.Heard.{Heard}
+use Rattle.machine.specs.Log.{isDriving, marked, maskFrom, fourBytes, flagsOf, clockRecord}
+use Rattle.machine.specs.Run.{addressesOf}
+use Rattle.machine.specs.Lines.{lineOf, lineAnswers, lineDrivesIn, lineDrives, actingIn, lineActs, lineFollows, onto, heardStation, hearsDrive, hears, heardFrom, recordOf}
+
+-- Of one PHY
+-- a PHY without its line
+abbrev pub bare : Phy → Phy
+bare phy = withLine (Hunting 0) 0 phy
+
+-- a line put back where nothing else changed
+pub put-back : (p q : Phy) → bare q ≡ bare p → onto (lineOf p) q ≡ p
+put-back p q same = ap (withLine (p .follower) (p .captured)) same
+
+-- a line says what its PHY drives
+pub line-drives : (phy : Phy) → lineDrives (lineOf phy) ≡ drives phy
+unfolding lineDrivesIn lineAnswers drivesIn answers implements
+line-drives phy = go (phy .follower)
+  where
+    go : (f : Follower) → lineDrivesIn f (lineOf phy) ≡ drivesIn f phy
+    go (Hunting ones) = refl
+    go (Inside seen bits) = refl
+
+-- where a PHY does not act, its follower moves and nothing else
+pub quiet-clock : (level : Bool) (phy : Phy) → actingIn (phy .follower) ≡ false → clock level phy ≡ withFollower (follow (enough phy) level (phy .follower)) phy
+unfolding clock acts
+quiet-clock level phy quiet = ap (withFollower (follow (enough phy) level (phy .follower))) (go (phy .follower) quiet)
+  where
+    unmoved : (seen bits : ℕ) → eqb seen 13 ≡ false → eqb seen 31 ≡ false → acts seen bits phy ≡ phy
+    unmoved seen bits n13 n31 = rw (n13, n31)
+
+    go : (f : Follower) → actingIn f ≡ false → actsIn f level phy ≡ phy
+    go (Hunting ones) e = refl
+    go (Inside seen bits) e = let both = neither (eqb seen 13) (eqb seen 31) e in unmoved seen _ (both .0) (both .1)
+
+module _ (level : Bool) (phy : Phy) (quiet : actingIn (phy .follower) ≡ false) where
+  pub quiet-line : lineFollows level (lineOf phy) ≡ lineOf (clock level phy)
+  unfolding lineFollows enough
+  quiet-line = sym (ap lineOf (quiet-clock level phy quiet))
+
+  pub quiet-bare : bare (clock level phy) ≡ bare phy
+  quiet-bare = ap bare (quiet-clock level phy quiet)
+
+-- Of all PHYs
+level-from : (heard : Heard) (lines : List Line) → heardFrom heard lines .level ≡ heard .level && levelOf (map lineDrives lines)
+unfolding heardFrom hearsDrive
+level-from heard [] = sym (and-true (heard .level))
+level-from heard (line ∷ lines) = level-from (hears line heard) lines ∙ go (lineDrives line)
+  where
+    go : (drive : Drive) → hearsDrive (lineActs line) (line .address) drive heard .level && levelOf (map lineDrives lines) ≡ heard .level && levelOf (drive ∷ map lineDrives lines)
+    go Released = refl
+    go (Driven level) = and-assoc (heard .level) level (levelOf (map lineDrives lines))
+
+station-from : (heard : Heard) (lines : List Line) → heardFrom heard lines .station ≡ heard .station
+unfolding heardFrom hearsDrive
+station-from heard [] = refl
+station-from heard (line ∷ lines) = station-from (hears line heard) lines ∙ go (lineDrives line)
+  where
+    go : (drive : Drive) → hearsDrive (lineActs line) (line .address) drive heard .station ≡ heard .station
+    go Released = refl
+    go (Driven level) = refl
+
+mask-from : (heard : Heard) (lines : List Line) → heardFrom heard lines .mask ≡ maskFrom (heard .mask) (map (λ line. line .address) lines) (map lineDrives lines)
+unfolding heardFrom hearsDrive maskFrom
+mask-from heard [] = refl
+mask-from heard (line ∷ lines) = mask-from (hears line heard) lines ∙ ap (λ m. maskFrom m (map (λ line. line .address) lines) (map lineDrives lines)) (go (lineDrives line))
+  where
+    go : (drive : Drive) → hearsDrive (lineActs line) (line .address) drive heard .mask ≡ marked (heard .mask) (line .address) drive
+    go Released = refl
+    go (Driven level) = refl
+
+two-of : (k : ℕ) → leb 2 k || leb 1 k ≡ leb 2 (suc k)
+two-of zero = refl
+two-of (suc zero) = refl
+two-of (suc (suc k)) = rw (le-leb 2 (suc (suc k)) (omega arith), le-leb 2 (suc (suc (suc k))) (omega arith))
+
+several-from : (k : ℕ) (heard : Heard) (lines : List Line) → heard .some ≡ leb 1 k → heard .several ≡ leb 2 k → heardFrom heard lines .several ≡ leb 2 (k + drivers (map lineDrives lines))
+unfolding heardFrom hearsDrive
+several-from k heard [] some several = several ∙ ap (leb 2) (let e : k ≡ k + 0 = omega arith in e)
+several-from k heard (line ∷ lines) some several = go (lineDrives line) (λ k heard. several-from k heard lines)
+  where
+    go : (drive : Drive) → ((k : ℕ) (heard : Heard) → heard .some ≡ leb 1 k → heard .several ≡ leb 2 k → heardFrom heard lines .several ≡ leb 2 (k + drivers (map lineDrives lines)))
+        → heardFrom (hearsDrive (lineActs line) (line .address) drive heard) lines .several ≡ leb 2 (k + drivers (drive ∷ map lineDrives lines))
+    go Released rest = rest k _ some several
+    go (Driven level) rest =
+        let one : true ≡ leb 1 (suc k) = sym (le-leb 1 (suc k) (omega arith)) in
+        let two : heard .several || heard .some ≡ leb 2 (suc k) = ap₂ _||_ several some ∙ two-of k in
+        let e : suc k + drivers (map lineDrives lines) ≡ k + suc (drivers (map lineDrives lines)) = omega arith in
+        rest (suc k) _ one two ∙ ap (leb 2) e
+
+-- where nobody acts no line does
+pub none-acts : (heard : Heard) (lines : List Line) → heardFrom heard lines .acts ≡ false → (heard .acts ≡ false) × All (λ line. lineActs line ≡ false) lines
+unfolding heardFrom hearsDrive
+none-acts heard [] e = (e, tt)
+none-acts heard (line ∷ lines) e =
+    let rest = none-acts (hears line heard) lines e in
+    let both = go (lineDrives line) (rest .0) in
+    (both .0, (both .1, rest .1))
+  where
+    go : (drive : Drive) → hearsDrive (lineActs line) (line .address) drive heard .acts ≡ false → (heard .acts ≡ false) × (lineActs line ≡ false)
+    go Released e = neither (heard .acts) (lineActs line) e
+    go (Driven level) e = neither (heard .acts) (lineActs line) e
+
+module _ (station : Drive) (phys : List Phy) where
+  same-drives : map lineDrives (map lineOf phys) ≡ map drives phys
+  same-drives = map-then lineDrives lineOf drives line-drives phys
+
+  same-addresses : map (λ line. line .address) (map lineOf phys) ≡ addressesOf phys
+  same-addresses = map-then (λ line. line .address) lineOf (λ phy. phy .address) (λ phy. refl) phys
+
+  abbrev pub heardOf : Heard
+  heardOf = heardFrom (heardStation station) (map lineOf phys)
+
+  -- the level is heard
+  pub heard-level : heardOf .level ≡ levelOf (station ∷ map drives phys)
+  heard-level = level-from (heardStation station) (map lineOf phys) ∙ ap (λ ds. heardStation station .level && levelOf ds) same-drives ∙ go station
+    where
+      go : (d : Drive) → heardStation d .level && levelOf (map drives phys) ≡ levelOf (d ∷ map drives phys)
+      go Released = refl
+      go (Driven level) = refl
+
+  heard-station : heardOf .station ≡ isDriving station
+  heard-station = station-from (heardStation station) (map lineOf phys) ∙ go station
+    where
+      go : (d : Drive) → heardStation d .station ≡ isDriving d
+      go Released = refl
+      go (Driven level) = refl
+
+  heard-several : heardOf .several ≡ leb 2 (drivers (station ∷ map drives phys))
+  heard-several = go station ∙ ap (λ ds. leb 2 (drivers (station ∷ ds))) same-drives
+    where
+      go : (d : Drive) → heardFrom (heardStation d) (map lineOf phys) .several ≡ leb 2 (drivers (d ∷ map lineDrives (map lineOf phys)))
+      go Released = several-from 0 (heardStation Released) (map lineOf phys) refl refl ∙ ap (leb 2) (let e : 0 + drivers (map lineDrives (map lineOf phys)) ≡ drivers (map lineDrives (map lineOf phys)) = omega arith in e)
+      go (Driven level) = several-from 1 (heardStation (Driven level)) (map lineOf phys) refl refl ∙ ap (leb 2) (let e : 1 + drivers (map lineDrives (map lineOf phys)) ≡ suc (drivers (map lineDrives (map lineOf phys))) = omega arith in e)
+
+  heard-mask : heardOf .mask ≡ maskFrom 0 (addressesOf phys) (map drives phys)
+  heard-mask = mask-from (heardStation station) (map lineOf phys) ∙ go station ∙ ap₂ (maskFrom 0) same-addresses same-drives
+    where
+      go : (d : Drive) → maskFrom (heardStation d .mask) (map (λ line. line .address) (map lineOf phys)) (map lineDrives (map lineOf phys)) ≡ maskFrom 0 (map (λ line. line .address) (map lineOf phys)) (map lineDrives (map lineOf phys))
+      go Released = refl
+      go (Driven level) = refl
+
+  -- and the record that is written is the clock's
+  pub heard-record : recordOf heardOf ≡ clockRecord (addressesOf phys) (station ∷ map drives phys)
+  unfolding recordOf clockRecord
+  heard-record = rw (heard-level, heard-station, heard-several, heard-mask)

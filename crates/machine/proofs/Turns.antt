@@ -1,0 +1,71 @@
+-- Arrays filled place by place: what a turn reads, and what all turns leave.
+use Prim.Native.Nat.{ℕ, zero, suc, _+_, _≤_, _<_}
+use mathlib.Core.Path.{_≡_, refl, sym, ap, _∙_}
+use mathlib.Core.List.{List, [], _∷_, _++_, map, append-nil}
+use native.Mathlib.Numerals.{add-one}
+use native.Mathlib.Omega.{arith}
+use lib.ListN.{length, getD, set, take, drop, drop-of-length-le}
+use lib.Seq.{drop-cons, getD-at, length-take-le, take-all, getD-take}
+use Rattle.verdict.specs.Output.{tabulate}
+use Rattle.verdict.proofs.Lists.{length-tabulate, tabulate-of, map-tabulate}
+use Rattle.verdict.specs.Lists.{All}
+use Rattle.phy.specs.declared.Phy.{Phy}
+use Rattle.phy.specs.Sound.{nowhere}
+use Rattle.board.specs.declared.Board.{Board}
+use Rattle.board.proofs.Filled.{filled, fill}
+use Rattle.machine.specs.declared.line.Line.{Line}
+use Rattle.machine.specs.declared.hear.Heard.{Heard}
+use Rattle.machine.specs.Lines.{noLine, onto, joinedBoard, hears, heardFrom}
+
+module _ {A : Type 0} where
+  -- within a list it makes no difference what is read past its end
+  pub within : (xs : List A) (i : ℕ) (d e : A) → i < length xs → getD xs i d ≡ getD xs i e
+  within [] i d e h = absurd (omega arith)
+  within (x ∷ xs) zero d e h = refl
+  within (x ∷ xs) (suc i) d e h = within xs i d e (omega arith)
+
+  -- the place that is filled next still holds what it held
+  pub next-place : (f : ℕ → A) (old xs : List A) (i : ℕ) (d : A) → i < length old → xs ≡ filled f old i → getD xs i d ≡ getD old i d
+  next-place f old xs i d h so-far =
+      rw (so-far, drop-cons old i d h) (getD-at (tabulate i f) (getD old i d) (drop (suc i) old) d i (length-tabulate i f))
+
+  -- what holds of every element holds of the one at a place
+  pub all-at : (Q : A → Type 0) (xs : List A) (i : ℕ) (d : A) → i < length xs → All Q xs → Q (getD xs i d)
+  all-at Q [] i d h all = absurd (omega arith)
+  all-at Q (x ∷ xs) zero d h all = all .0
+  all-at Q (x ∷ xs) (suc i) d h all = all-at Q xs i d (omega arith) (all .1)
+
+  -- the first n elements, one by one
+  pub tabulate-take : (n : ℕ) (xs : List A) (d : A) → n ≤ length xs → tabulate n (λ i. getD xs i d) ≡ take n xs
+  tabulate-take n xs d h = sym (tabulate-of n (λ i. getD xs i d) (take n xs) d (length-take-le n xs h) (λ i l. getD-take n xs i d l))
+
+-- and what is made of each
+pub tabulate-map : {A B : Type 0} (g : A → B) (n : ℕ) (xs : List A) (d : A) → n ≤ length xs → tabulate n (λ i. g (getD xs i d)) ≡ map g (take n xs)
+tabulate-map g n xs d h = sym (map-tabulate g n (λ i. getD xs i d)) ∙ ap (map g) (tabulate-take n xs d h)
+
+-- a whole array filled with what is made of each element of another
+pub filled-map : {A B : Type 0} (g : A → B) (xs : List A) (d : A) (old : List B) (n : ℕ) → length xs ≡ n → length old ≡ n → filled (λ i. g (getD xs i d)) old n ≡ map g xs
+filled-map g xs d old n long same =
+    let none : drop n old ≡ [] = drop-of-length-le old {i = n} (omega arith) in
+    let all : take n xs ≡ xs = take-all n xs (omega arith) in
+    rw (none, append-nil, tabulate-map g n xs d (omega arith), all)
+
+-- A board whose lines are put back place by place
+module _ (effect : Phy → Phy) (lines : List Line) (board : Board) where
+  abbrev pub rejoined : ℕ → Phy
+  rejoined i = effect (onto (getD lines i noLine) (getD (board .phys) i nowhere))
+
+  pub join-next : (xs : List Phy) (i : ℕ) (v : Phy) → i < length (board .phys) → xs ≡ filled rejoined (board .phys) i → v ≡ effect (onto (getD lines i noLine) (getD xs i nowhere)) → set xs i v ≡ filled rejoined (board .phys) (i + 1)
+  join-next xs i v h so-far here =
+      fill rejoined (board .phys) xs i v h so-far
+      (here ∙ ap (λ phy. effect (onto (getD lines i noLine) phy)) (next-place rejoined (board .phys) xs i nowhere h so-far))
+
+  pub join-end : (after : Board) (i : ℕ) → i ≡ board .count → after .count ≡ board .count → after .phys ≡ filled rejoined (board .phys) i → after ≡ joinedBoard effect lines board
+  unfolding joinedBoard
+  join-end after i all same filled-all =
+      λ j. record { count = same j; phys = (filled-all ∙ ap (filled rejoined (board .phys)) all) j }
+
+-- What is heard line by line
+pub heard-next : (heard : Heard) (lines : List Line) (i : ℕ) (d : Line) → i < length lines → heardFrom heard (drop i lines) ≡ heardFrom (hears (getD lines i d) heard) (drop (i + 1) lines)
+unfolding heardFrom
+heard-next heard lines i d h = rw (drop-cons lines i d h, add-one)

@@ -1,0 +1,14 @@
+use Rattle.machine.specs.Lines.{lineFollows}
+use borrow.Author.Needs.{needs}
+use Rattle.machine.proofs.line.Line.follows.Statement.{statement}
+use Rattle.machine.proofs.line.Line.follows.Tie as tie
+
+follow-requires : tie.Need-follow-requires
+follow-requires c κs = search needs
+
+returns : tie.Need-returns
+unfolding lineFollows
+returns c = rw (c .follow .ensures)
+
+pub follows-spec : {M : Type 1} → statement M
+follows-spec = tie.close (tie.spec follow-requires returns)

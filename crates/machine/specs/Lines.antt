@@ -1,0 +1,131 @@
+-- What the wire needs of a PHY at every clock, apart from the rest: its line. A clock is told by the lines alone, but for the 14th and the 32nd bit of a frame and for events.
+use Prim.Native.Nat.{ℕ, _+_, _*_, _-_}
+use mathlib.Core.Bool.{Bool, true, false, _&&_, _||_, cond}
+use mathlib.Core.List.{List, [], _∷_}
+use lib.ListN.{getD}
+use lib.Dec.{eqb, ltb, leb}
+use Rattle.frame.specs.Frame.{headerBits, frameBits}
+use Rattle.frame.specs.List.{read}
+use Rattle.wire.specs.declared.Drive.{Drive}
+use Rattle.wire.specs.declared.Drive.the-variants.{Released, Driven}
+use Rattle.wire.specs.declared.Follower.{Follower}
+use Rattle.wire.specs.declared.Follower.the-variants.{Hunting, Inside}
+use Rattle.wire.specs.declared.Header.{Header}
+use Rattle.wire.specs.Wire.{asBit}
+use Rattle.wire.specs.Follower.{follow, headerSeen}
+use Rattle.phy.specs.declared.Phy.{Phy}
+use Rattle.phy.specs.Abilities.{one}
+use Rattle.phy.specs.Words.{setBit}
+use Rattle.phy.specs.Fields.{withLine}
+use Rattle.phy.specs.Sound.{nowhere}
+use Rattle.phy.specs.Clock.{enough, answerBit}
+use Rattle.verdict.specs.File.{records}
+use Rattle.verdict.specs.Output.{tabulate}
+use Rattle.board.specs.Events.{eventRecord, eventClock}
+use Rattle.board.specs.declared.Board.{Board}
+use Rattle.machine.specs.declared.line.Line.{Line}
+use Rattle.machine.specs.declared.hear.Heard.{Heard}
+use Rattle.machine.specs.Outcome.{withPhys}
+use Rattle.machine.specs.Log.{fourBytes}
+
+-- a PHY's line
+abbrev pub lineOf : Phy → Line
+lineOf phy =
+    record {
+      address = phy .address;
+      implemented = phy .implemented;
+      enough = enough phy;
+      follower = phy .follower;
+      captured = phy .captured;
+    }
+
+-- what the line says of its PHY: whether it answers a header, and what it drives in the next clock
+unfoldable pub lineAnswers : Header → Line → Bool
+lineAnswers header line =
+    eqb (header .op) read
+    && (eqb (header .address) (line .address) && (ltb (header .register) 32 && one (header .register) (line .implemented)))
+
+unfoldable pub lineDrivesIn : Follower → Line → Drive
+lineDrivesIn (Hunting ones) line = Released
+lineDrivesIn (Inside seen bits) line =
+    cond (lineAnswers (headerSeen seen bits) line) (answerBit seen (line .captured)) Released
+
+abbrev pub lineDrives : Line → Drive
+lineDrives line = lineDrivesIn (line .follower) line
+
+-- whether the next clock is one in which a PHY acts
+abbrev pub actingIn : Follower → Bool
+actingIn (Hunting ones) = false
+actingIn (Inside seen bits) = eqb seen (headerBits - 1) || eqb seen (frameBits - 1)
+
+abbrev pub lineActs : Line → Bool
+lineActs line = actingIn (line .follower)
+
+-- the line after any other clock
+unfoldable pub lineFollows : Bool → Line → Line
+lineFollows level line =
+    record {
+      address = line .address;
+      implemented = line .implemented;
+      enough = line .enough;
+      follower = follow (line .enough) level (line .follower);
+      captured = line .captured;
+    }
+
+-- what a list of lines reads past its end
+abbrev pub noLine : Line
+noLine = record { address = 0; implemented = 0; enough = 0; follower = Hunting 0; captured = 0 }
+
+-- a PHY with a line's follower and captured word
+abbrev pub onto : Line → Phy → Phy
+onto line phy = withLine (line .follower) (line .captured) phy
+
+-- a board with its lines put back, each PHY after an effect
+unfoldable pub joinedBoard : (Phy → Phy) → List Line → Board → Board
+joinedBoard effect lines board =
+    withPhys board (tabulate (board .count) (λ i. effect (onto (getD lines i noLine) (getD (board .phys) i nowhere))))
+
+-- What is heard of the station alone
+abbrev pub heardStation : Drive → Heard
+heardStation Released =
+    record { level = true; station = false; some = false; several = false; mask = 0; acts = false }
+heardStation (Driven level) =
+    record { level = level; station = true; some = true; several = false; mask = 0; acts = false }
+
+-- and of one PHY more, by its address, by what it drives, and by whether it acts
+unfoldable pub hearsDrive : Bool → ℕ → Drive → Heard → Heard
+hearsDrive acts address Released heard =
+    record {
+      level = heard .level;
+      station = heard .station;
+      some = heard .some;
+      several = heard .several;
+      mask = heard .mask;
+      acts = heard .acts || acts;
+    }
+hearsDrive acts address (Driven level) heard =
+    record {
+      level = heard .level && level;
+      station = heard .station;
+      some = true;
+      several = heard .several || heard .some;
+      mask = setBit address (heard .mask);
+      acts = heard .acts || acts;
+    }
+
+abbrev pub hears : Line → Heard → Heard
+hears line heard = hearsDrive (lineActs line) (line .address) (lineDrives line) heard
+
+-- what is heard of some PHYs more, in order
+unfoldable pub heardFrom : Heard → List Line → Heard
+heardFrom heard [] = heard
+heardFrom heard (line ∷ lines) = heardFrom (hears line heard) lines
+
+-- the log record of what is heard
+unfoldable pub recordOf : Heard → List ℕ
+recordOf heard =
+    (asBit (heard .level) * 1 + asBit (heard .station) * 2 + asBit (heard .several) * 4) ∷ fourBytes (heard .mask)
+
+-- whether the event record at an index comes up to a clock
+abbrev pub isDue : List ℕ → ℕ → ℕ → Bool
+isDue events next clock = ltb next (records eventRecord events) && leb (eventClock events next) clock

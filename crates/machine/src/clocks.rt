@@ -1,0 +1,133 @@
+// The wire machine: every clock, all parties drive, then all sample the level (document 01, "Clock steps").
+ghost use mathlib.Core.Path.{_≡_};
+ghost use Prim.Native.Nat.{_*_};
+ghost use lib.ListN.{length};
+ghost use Rattle.verdict.specs.declared.Verdict.the-variants.{Done};
+ghost use Rattle.frame.specs.Frame.{logRecord};
+ghost use Rattle.machine.specs.Lines.{isDue};
+ghost use Rattle.machine.specs.Run.{stepsVerdict, running, Ran};
+ghost use Rattle.machine.specs.Clocks.{Clocked};
+use crate::Outcome;
+use crate::events::happen_until;
+use crate::hear::hear;
+use crate::hear::station_drive;
+use crate::line::clock_all;
+use crate::line::follow_all;
+use crate::line::join_all;
+use crate::line::lines_of;
+use board::Board;
+use board::check;
+use board::check_events;
+use board::clock_of;
+use frame::Frame;
+use frame::Transaction;
+use verdict::Verdict;
+
+struct Steps {}
+
+impl Steps {
+    // As many as the longest list has, and the largest that there is.
+    const MOST: usize = Transaction::MOST * Frame::CLOCKS;
+
+    const LARGEST: u8 = 3;
+}
+
+// The steps' checks: not too many, and each one of four.
+fn check_steps(steps: &[u8]) -> Verdict
+    ensures { λ r. ⌜ r ≡ stepsVerdict (now (steps .entry)) ⌝ }
+{
+    let count = steps.len();
+    if Steps::MOST < count {
+        return Verdict::Refused(Verdict::TOO_MANY, 0);
+    }
+    let mut k: usize = 0;
+    while k < count {
+        if Steps::LARGEST < steps[k] {
+            return Verdict::Refused(Verdict::WRONG_STEP, k);
+        }
+        k += 1;
+    }
+    Verdict::Done(count)
+}
+
+// Whether the event record at index `next` comes up to a clock.
+fn is_due(events: &[u8], next: usize, clock: usize) -> bool
+    ensures { λ r. ⌜ r ≡ isDue (now (events .entry)) next clock ⌝ }
+{
+    if next < events.len() / Board::EVENT_RECORD {
+        clock_of(events, next) as usize <= clock
+    } else {
+        false
+    }
+}
+
+// All clocks of a run that is not refused. In most of them no PHY acts and no event is due: then the lines alone are
+// touched, a few bytes for each PHY, and the board goes through no call.
+fn clock_by_clock(board: Board, steps: &[u8], events: &[u8], log: &mut [u8]) -> Board
+    requires { ⌜ running board (now steps) (now events) (now log) ≡ Done (length (now steps) * logRecord) ⌝ }
+    ensures { λ r. ⌜ Clocked board (now (steps .entry)) (now (events .entry)) (now (log .entry)) r (now (log .exit)) ⌝ }
+{
+    let count = board.count;
+    let start = happen_until(board, events, 0, 0);
+    let mut now = start.board;
+    let mut next = start.next;
+    let mut lines = lines_of(now);
+    let mut c: usize = 0;
+    while c < steps.len() {
+        let heard = hear(lines, count, station_drive(steps[c]));
+        let at = c * Frame::LOG_RECORD;
+        let end = at + Frame::LOG_RECORD;
+        heard.put(&mut log[at..end]);
+        c += 1;
+        if heard.acts | is_due(events, next, c) {
+            let happened = happen_until(clock_all(now, lines, heard.level), events, next, c);
+            now = happened.board;
+            next = happened.next;
+            let taken = lines_of(now);
+            lines = taken;
+        } else {
+            let followed = follow_all(lines, count, heard.level);
+            lines = followed;
+        }
+    }
+    join_all(now, lines)
+}
+
+// Runs the steps on a board, with the events between clocks, and writes a record of each clock to the log's start.
+pub fn run(board: Board, steps: &[u8], events: &[u8], log: &mut [u8]) -> Outcome
+    ensures { λ r. ⌜ Ran board (now (steps .entry)) (now (events .entry)) (now (log .entry)) r (now (log .exit)) ⌝ }
+{
+    let sound = check(board);
+    let Verdict::Done(_) = sound else {
+        return Outcome {
+            verdict: sound,
+            board: board,
+        };
+    };
+    let stepped = check_steps(steps);
+    let Verdict::Done(count) = stepped else {
+        return Outcome {
+            verdict: stepped,
+            board: board,
+        };
+    };
+    let happening = check_events(board, events, count);
+    let Verdict::Done(_) = happening else {
+        return Outcome {
+            verdict: happening,
+            board: board,
+        };
+    };
+    let size = count * Frame::LOG_RECORD;
+    if log.len() < size {
+        return Outcome {
+            verdict: Verdict::Refused(Verdict::NO_ROOM, 0),
+            board: board,
+        };
+    }
+    let after = clock_by_clock(board, steps, events, log);
+    Outcome {
+        verdict: Verdict::Done(size),
+        board: after,
+    }
+}

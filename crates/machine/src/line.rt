@@ -1,0 +1,196 @@
+// What the wire needs of a PHY at every clock, in a few bytes, so that a clock touches no whole PHY unless one acts.
+ghost use mathlib.Core.Path.{_≡_};
+ghost use Prim.Native.Nat.{_≤_, _<_};
+ghost use Rattle.phy.specs.Fields.{withLine};
+ghost use mathlib.Core.List.{_++_, map};
+ghost use lib.ListN.{take, drop};
+ghost use Rattle.phy.specs.Clock.{answerBit, clock};
+ghost use Rattle.machine.specs.Lines.{lineOf, lineAnswers, lineDrives, lineActs, lineFollows, joinedBoard};
+use board::Board;
+use frame::Transaction;
+use phy::Phy;
+use wire::Drive;
+use wire::Follower;
+use wire::Header;
+
+pub(crate) struct Line {
+    pub(crate) address: u8,
+    pub(crate) implemented: u32,
+    pub(crate) enough: u8,
+    pub(crate) follower: Follower,
+    pub(crate) captured: u16,
+}
+
+impl Line {
+    // The bits of a frame that are seen before its 14th one, with it, and before an answer starts.
+    const BEFORE_HEADER: u8 = 13;
+
+    const HEADER: u8 = 14;
+
+    const BEFORE_ANSWER: u8 = 15;
+
+    pub(crate) fn of(phy: Phy) -> Line
+        ensures { λ r. ⌜ r ≡ lineOf phy ⌝ }
+    {
+        let follower = phy.follower;
+        Line {
+            address: phy.address,
+            implemented: phy.implemented,
+            enough: phy.enough(),
+            follower: follower,
+            captured: phy.captured,
+        }
+    }
+
+    // The PHY with this line's follower and captured word.
+    pub(crate) fn onto(self, phy: Phy) -> Phy
+        ensures { λ r. ⌜ r ≡ withLine (self .follower) (self .captured) phy ⌝ }
+    {
+        let defaults = phy.defaults;
+        let masks = phy.masks;
+        let registers = phy.registers;
+        let follower = self.follower;
+        Phy {
+            address: phy.address,
+            implemented: phy.implemented,
+            defaults: defaults,
+            masks: masks,
+            registers: registers,
+            link: phy.link,
+            follower: follower,
+            captured: self.captured,
+        }
+    }
+
+    // Whether a header is an own read of an implemented register.
+    fn answers(self, header: Header) -> bool
+        ensures { λ r. ⌜ r ≡ lineAnswers header self ⌝ }
+    {
+        if header.register >= Phy::REGISTERS {
+            return false;
+        }
+        (header.op == Transaction::READ)
+            & ((header.address == self.address) & ((self.implemented >> header.register) % 2 == 1))
+    }
+
+    // What an answer drives after this many frame bits: 0 for bit 16, then the captured word.
+    fn answer_bit(seen: u8, captured: u16) -> Drive
+        requires { ⌜ (15 ≤ seen) × (seen ≤ 31) ⌝ }
+        ensures { λ r. ⌜ r ≡ answerBit seen captured ⌝ }
+    {
+        if seen == Line::BEFORE_ANSWER {
+            return Drive::Driven(false);
+        }
+        Drive::Driven((captured >> (Follower::MOST_SEEN - seen)) % 2 == 1)
+    }
+
+    // What the PHY drives in the next clock.
+    pub(crate) fn drives(self) -> Drive
+        ensures { λ r. ⌜ r ≡ lineDrives self ⌝ }
+    {
+        let follower = self.follower;
+        let Follower::Inside(seen, bits) = follower else {
+            return Drive::Released;
+        };
+        if seen < Line::BEFORE_ANSWER {
+            return Drive::Released;
+        }
+        if seen > Follower::MOST_SEEN {
+            return Drive::Released;
+        }
+        let header = Header::of(bits >> (seen - Line::HEADER));
+        if self.answers(header) {
+            Line::answer_bit(seen, self.captured)
+        } else {
+            Drive::Released
+        }
+    }
+
+    // Whether the next clock is the 14th or the 32nd bit of a frame, where the whole PHY acts.
+    pub(crate) fn acts(self) -> bool
+        ensures { λ r. ⌜ r ≡ lineActs self ⌝ }
+    {
+        let follower = self.follower;
+        match follower {
+            Follower::Hunting(_) => false,
+            Follower::Inside(seen, _) => {
+                (seen == Line::BEFORE_HEADER) | (seen == Follower::MOST_SEEN)
+            }
+        }
+    }
+
+    // The line after a clock in which its PHY does not act.
+    pub(crate) fn follows(self, level: bool) -> Line
+        ensures { λ r. ⌜ r ≡ lineFollows level self ⌝ }
+    {
+        let follower = self.follower;
+        let next = follower.follow(self.enough, level);
+        Line {
+            address: self.address,
+            implemented: self.implemented,
+            enough: self.enough,
+            follower: next,
+            captured: self.captured,
+        }
+    }
+}
+
+// The line of each place.
+pub(crate) fn lines_of(board: Board) -> [Line; 32]
+    ensures { λ r. ⌜ r ≡ map lineOf (board .phys) ⌝ }
+{
+    let phys = board.phys;
+    let mut lines = [Line::of(phys[0]); 32];
+    let mut i: usize = 0;
+    while i < Board::PLACES {
+        lines[i] = Line::of(phys[i]);
+        i += 1;
+    }
+    lines
+}
+
+// The first `count` lines after a clock in which no PHY acts.
+pub(crate) fn follow_all(mut lines: [Line; 32], count: usize, level: bool) -> [Line; 32]
+    requires { ⌜ count ≤ 32 ⌝ }
+    ensures { λ r. ⌜ r ≡ map (lineFollows level) (take count lines) ++ drop count lines ⌝ }
+{
+    let mut i: usize = 0;
+    while i < count {
+        let line = lines[i];
+        lines[i] = line.follows(level);
+        i += 1;
+    }
+    lines
+}
+
+// The board with its lines put back.
+pub(crate) fn join_all(mut board: Board, lines: [Line; 32]) -> Board
+    requires { ⌜ board .count ≤ 32 ⌝ }
+    ensures { λ r. ⌜ r ≡ joinedBoard (λ phy. phy) lines board ⌝ }
+{
+    let count = board.count;
+    let mut i: usize = 0;
+    while i < count {
+        let line = lines[i];
+        let phy = line.onto(board.phys[i]);
+        board.phys[i] = phy;
+        i += 1;
+    }
+    board
+}
+
+// The board with its lines put back, after a clock at a level.
+pub(crate) fn clock_all(mut board: Board, lines: [Line; 32], level: bool) -> Board
+    requires { ⌜ board .count ≤ 32 ⌝ }
+    ensures { λ r. ⌜ r ≡ joinedBoard (clock level) lines board ⌝ }
+{
+    let count = board.count;
+    let mut i: usize = 0;
+    while i < count {
+        let line = lines[i];
+        let phy = line.onto(board.phys[i]);
+        board.phys[i] = phy.clock(level);
+        i += 1;
+    }
+    board
+}
