@@ -4,9 +4,10 @@ use board::load;
 use frame::decode;
 use frame::translate;
 use machine::plain;
+use machine::run;
 use verdict::Verdict;
 ghost use mathlib.Core.Path.{_≡_};
-ghost use Rattle.door.specs.Door.{codeOf, OpensTranslate, OpensDecode, OpensPlain};
+ghost use Rattle.door.specs.Door.{codeOf, OpensTranslate, OpensDecode, OpensRun, OpensPlain};
 
 fn code(answer: Verdict) -> u64
     ensures { λ r. ⌜ r ≡ codeOf answer ⌝ }
@@ -22,6 +23,21 @@ pub extern "C" fn taksherub_translate(list: &[u8], steps: &mut [u8]) -> u64
     ensures { λ r. ⌜ OpensTranslate (now (list .entry)) (now (steps .entry)) r (now (steps .exit)) ⌝ }
 {
     code(translate(list, steps))
+}
+
+#[no_mangle]
+pub extern "C" fn taksherub_run(board: &[u8], steps: &[u8], events: &[u8], log: &mut [u8]) -> u64
+    ensures { λ r. ⌜ OpensRun (now (board .entry)) (now (steps .entry)) (now (events .entry)) (now (log .entry)) r (now (log .exit)) ⌝ }
+{
+    let loaded = load(board);
+    let verdict = loaded.verdict;
+    let Verdict::Done(_) = verdict else {
+        return code(verdict);
+    };
+    let fresh = loaded.board;
+    let outcome = run(fresh, steps, events, log);
+    let answer = outcome.verdict;
+    code(answer)
 }
 
 #[no_mangle]
