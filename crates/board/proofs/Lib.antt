@@ -1,6 +1,5 @@
 pub mod Records
 pub mod Filled
-pub mod Files
 pub mod Loading
 pub mod Soundness
 pub mod LoadSound
