@@ -1,6 +1,4 @@
 pub mod Records
-pub mod Filled
-pub mod Files
 pub mod Loading
 pub mod Soundness
 pub mod LoadSound

@@ -12,6 +12,7 @@ use Rattle.verdict.specs.declared.Verdict.{Verdict}
 use Rattle.verdict.specs.declared.Verdict.the-variants.{Done, Refused}
 use Rattle.verdict.specs.Output.{tabulate}
 use Rattle.verdict.proofs.Lists.{length-tabulate}
+use Rattle.verdict.proofs.Checks.{accepted}
 use Rattle.wire.specs.declared.Follower.the-variants.{Hunting}
 use Rattle.phy.specs.declared.Phy.{Phy}
 use Rattle.phy.specs.Record.{every, masksZero, unimplementedZero, wordsRight, word, defaultsRight}
@@ -21,7 +22,6 @@ use Rattle.phy.proofs.Fresh.{fresh-sound}
 use Rattle.board.specs.Record.{fieldsWrong}
 use Rattle.board.specs.Check.{places, placeAt, recordPasses, placeSound, checked}
 use Rattle.board.specs.Load.{boardRecord, zeroByteAt, phyAt, usedBefore, recordFault, boardVerdict, boardOf, noPhys, loadedBy, loaded}
-use Rattle.board.proofs.Files.{done-file}
 use Rattle.board.proofs.Loading.{loaded-at, used-before}
 use Rattle.board.proofs.Soundness.{Sound, Passes, sound-check, no-fault-passes, passes-no-fault}
 
@@ -31,7 +31,7 @@ blank-blank = refl
 
 module _ (file : List ℕ) (n : ℕ) (done : boardVerdict file ≡ Done n) where
   fits : n ≤ places
-  fits = done-file boardRecord places (recordFault file) file n done .at-most
+  fits = accepted boardRecord places (recordFault file) file n done .allowed
 
   -- each PHY is as its record says: hunting with 0 ones, link down, every register at default
   pub place-fresh : (k : ℕ) → k < n → placeAt (boardOf n (phyAt file)) k ≡ phyAt file k
@@ -55,7 +55,7 @@ module _ (file : List ℕ) (n : ℕ) (done : boardVerdict file ≡ Done n) where
 
   record-passes : (k : ℕ) → k < n → Passes (zeroByteAt file k) (usedBefore file k) (phyAt file k)
   unfolding recordFault
-  record-passes k l = no-fault-passes _ _ _ (done-file boardRecord places (recordFault file) file n done .each-passes k l)
+  record-passes k l = no-fault-passes _ _ _ (accepted boardRecord places (recordFault file) file n done .all-pass k l)
 
   words-right : (k : ℕ) → k < n → wordsRight (word (phyAt file k .defaults) 0) (word (phyAt file k .defaults) 1) (word (phyAt file k .defaults) 15) ≡ true
   unfolding defaultsRight

@@ -7,13 +7,13 @@ use mathlib.Core.Path.{_≡_, ap, _∙_}
 use lib.ListN.{getD, drop, List·getD-append}
 use lib.Dec.{eqb}
 use Rattle.verdict.proofs.Lists.{length-tabulate, getD-tabulate}
+use Rattle.verdict.proofs.Outputs.{filled}
 use Rattle.verdict.specs.Output.{tabulate}
 use Rattle.phy.specs.declared.Phy.{Phy}
 use Rattle.phy.specs.Sound.{nowhere}
 use Rattle.phy.proofs.Every.{any-ext}
 use Rattle.board.specs.Record.{hasAddress, faultOf}
 use Rattle.board.specs.Load.{addressAt, zeroByteAt, phyAt, usedBefore, recordFault}
-use Rattle.board.proofs.Filled.{filled}
 
 module _ (file : List ℕ) (old : List Phy) (n : ℕ) where
   -- a PHY that stands already, where n are loaded

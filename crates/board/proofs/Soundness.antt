@@ -1,5 +1,5 @@
 -- What `check` says of a board: which boards pass, the lowest place at fault, no two PHYs at one address; and that a load passes.
-use Prim.Native.Nat.{ℕ, zero, suc, _≤_, _<_}
+use Prim.Native.Nat.{ℕ, _≤_, _<_}
 use mathlib.Core.Bool.{Bool, true, false, not}
 use mathlib.Core.Path.{_≡_, refl, sym}
 use native.Mathlib.Omega.{arith}
@@ -8,7 +8,7 @@ use borrow.Author.Tests.{lt-ltb, le-ltb, ltb-false, le-leb, lt-leb, eqb-true, eq
 use Rattle.verdict.specs.declared.Verdict.the-variants.{Done, Refused}
 use Rattle.verdict.specs.Refusal.{wrongField, addressUsed, wrongRegisterSet, wrongDefault, notSound, _when_, _else_, refuse}
 use Rattle.verdict.specs.File.{inOrder}
-use Rattle.verdict.proofs.Checks.{FirstAtFault, refused-first, done-all-pass, all-pass-done}
+use Rattle.verdict.proofs.Checks.{FirstAtFault, refused-first, refused-number, done-all-pass, all-pass-done}
 use Rattle.phy.specs.declared.Phy.{Phy}
 use Rattle.phy.specs.Sound.{phySound, isBlank}
 use Rattle.phy.proofs.Every.{both, any-none}
@@ -26,16 +26,6 @@ pub record Sound (board : Board) : Type 0 where
 no-finding : (b : Bool) → notSound when not b ≡ 0 → b ≡ true
 no-finding true e = refl
 no-finding false e = absurd (omega arith)
-
--- no refusal has the number 0
-refused-number : (fault : ℕ → ℕ) (n k left c j : ℕ) → inOrder fault k left (Done n) ≡ Refused c j → c ≡ 0 → ⊥
-unfolding inOrder
-refused-number fault n k zero c j e z = let d : _≡_ {A = ℕ} 0 1 = cc in omega arith
-refused-number fault n k (suc left) c j e z = go (fault k) e (λ e. refused-number fault n (suc k) left c j e z)
-  where
-    go : (f : ℕ) → refuse f k (inOrder fault (suc k) left (Done n)) ≡ Refused c j → (inOrder fault (suc k) left (Done n) ≡ Refused c j → ⊥) → ⊥
-    go zero e rest = rest e
-    go (suc f) e rest = let number : suc f ≡ c = cc in omega arith
 
 module _ (board : Board) where
   -- a board that passes is sound, and the answer counts its PHYs

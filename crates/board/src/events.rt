@@ -17,11 +17,7 @@ fn byte_of(events: &[u8], k: usize, offset: usize) -> u8
     if events.len() / Board::EVENT_RECORD < k {
         return 0;
     }
-    let at = k * Board::EVENT_RECORD;
-    if events.len() - at <= offset {
-        return 0;
-    }
-    events[at + offset]
+    verdict::byte_at(events, k * Board::EVENT_RECORD + offset)
 }
 
 // The clock, the address and the code of the event record at index k.

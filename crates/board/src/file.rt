@@ -9,18 +9,9 @@ use phy::Phy;
 use verdict::Verdict;
 use wire::Follower;
 ghost use mathlib.Core.Path.{_≡_};
-ghost use Prim.Native.Nat.{_+_, _*_, _≤_, _<_};
+ghost use Prim.Native.Nat.{_+_, _*_, _≤_};
 ghost use lib.ListN.{length};
-ghost use Rattle.verdict.specs.File.{wordAt};
 ghost use Rattle.board.specs.Load.{wordsAt, phyAt, boardRecord, refusedLoad, loaded};
-
-// The word at a place of the file, high byte first.
-fn word_at(file: &[u8], at: usize) -> u16
-    requires { ⌜ at + 1 < length (now file) ⌝ }
-    ensures { λ r. ⌜ r ≡ wordAt (now (file .entry)) at ⌝ }
-{
-    file[at] as u16 * 256 + file[at + 1] as u16
-}
 
 // The 32 words from a place of the file on, high byte first.
 fn words_at(file: &[u8], start: usize) -> [u16; 32]
@@ -30,7 +21,7 @@ fn words_at(file: &[u8], start: usize) -> [u16; 32]
     let mut words = [0u16; 32];
     let mut r: usize = 0;
     while r < Register::COUNT {
-        words[r] = word_at(file, start + r * 2);
+        words[r] = verdict::word_at(file, start + r * 2);
         r += 1;
     }
     words
@@ -42,8 +33,8 @@ fn phy_at(file: &[u8], k: usize) -> Phy
     ensures { λ r. ⌜ r ≡ phyAt (now (file .entry)) k ⌝ }
 {
     let at = k * Board::RECORD;
-    let high = word_at(file, at + 2);
-    let low = word_at(file, at + 4);
+    let high = verdict::word_at(file, at + 2);
+    let low = verdict::word_at(file, at + 4);
     let defaults = words_at(file, at + 6);
     let masks = words_at(file, at + 70);
     Phy {

@@ -1,8 +1,10 @@
 // One board record: checks 3 to 6 (document 01, "Board checks").
 use crate::Board;
-use crate::bits;
 use crate::bits::Register;
+use phy::Control;
+use phy::ExtendedStatus;
 use phy::Phy;
+use phy::Status;
 use verdict::Verdict;
 ghost use mathlib.Core.Path.{_≡_};
 ghost use Prim.Native.Nat.{_≤_};
@@ -75,11 +77,11 @@ fn unimplemented_zero(implemented: u32, defaults: [u16; 32], masks: [u16; 32]) -
 fn fastest(status: u16, extended: u16) -> u16
     ensures { λ r. ⌜ r ≡ fastest status extended ⌝ }
 {
-    if bits::able1000(status, extended) {
-        return Register::SPEED_1000;
+    if ExtendedStatus::able_1000(extended) {
+        return Control::THOUSAND;
     }
-    if bits::able100(status, extended) {
-        return Register::SPEED_100;
+    if Status::able_100(status) {
+        return Control::HUNDRED;
     }
     0
 }
@@ -89,11 +91,11 @@ fn derived_control(status: u16, extended: u16) -> u16
     ensures { λ r. ⌜ r ≡ derivedControl status extended ⌝ }
 {
     let speed = fastest(status, extended);
-    let negotiation = (status >> 3) % 2 * Register::NEGOTIATION;
-    if bits::able_half(status, extended) {
+    let negotiation = (status >> 3) % 2 * Control::AUTO_NEGOTIATION_ENABLE;
+    if Status::able_half(status, extended) {
         return speed + negotiation;
     }
-    speed + (negotiation + Register::FULL_DUPLEX)
+    speed + (negotiation + Control::FULL_DUPLEX)
 }
 
 // Check 6 on the defaults of registers 0, 1 and 15.
@@ -101,13 +103,13 @@ fn words_right(control: u16, status: u16, extended: u16) -> bool
     ensures { λ r. ⌜ r ≡ wordsRight control status extended ⌝ }
 {
     let derived = derived_control(status, extended);
-    let able = bits::able10(status, extended)
-        | (bits::able100(status, extended) | bits::able1000(status, extended));
+    let able = Status::able_10(status)
+        | (Status::able_100(status) | ExtendedStatus::able_1000(extended));
     let clear = !((status >> 5) % 2 == 1)
         & (!((status >> 4) % 2 == 1) & (!((status >> 2) % 2 == 1) & !((status >> 1) % 2 == 1)));
     clear
         & ((extended % Register::EXTENDED_RESERVED == 0)
-            & (able & (control == derived + (control >> 10) % 2 * Register::ISOLATE)))
+            & (able & (control == derived + (control >> 10) % 2 * Control::ISOLATE)))
 }
 
 // Check 6.

@@ -4,7 +4,10 @@ use crate::bits;
 use crate::bits::Register;
 use crate::record;
 use crate::record::Record;
+use phy::Control;
+use phy::ExtendedStatus;
 use phy::Phy;
+use phy::Status;
 use wire::Follower;
 use wire::Header;
 ghost use mathlib.Core.Path.{_≡_};
@@ -36,12 +39,12 @@ fn speed_able(control: u16, status: u16, extended: u16) -> bool
         if (control >> 13) % 2 == 1 {
             return false;
         }
-        return bits::able1000(status, extended);
+        return ExtendedStatus::able_1000(extended);
     }
     if (control >> 13) % 2 == 1 {
-        return bits::able100(status, extended);
+        return Status::able_100(status);
     }
-    bits::able10(status, extended)
+    Status::able_10(status)
 }
 
 // What register 0 is asked.
@@ -52,8 +55,8 @@ fn control_sound(phy: Phy) -> bool
     let status = phy.registers[1];
     let extended = phy.registers[15];
     let speed = speed_able(control, status, extended);
-    let full = bits::able_full(status, extended);
-    let half = bits::able_half(status, extended);
+    let full = Status::able_full(status, extended);
+    let half = Status::able_half(status, extended);
     let negotiation = !((control >> 12) % 2 == 1) | ((status >> 3) % 2 == 1);
     let restart = !((control >> 9) % 2 == 1) | ((control >> 12) % 2 == 1);
     let duplex = (((control >> 8) % 2 == 1) | (half | !full))
@@ -83,7 +86,7 @@ fn reset_stands(phy: Phy) -> bool
     ensures { λ r. ⌜ r ≡ resetStands phy ⌝ }
 {
     let control = phy.registers[0];
-    let stands = bits::stands_outside(Register::RESET, control, phy.defaults[0]);
+    let stands = bits::stands_outside(Control::RESET, control, phy.defaults[0]);
     let others = others_at_default(phy);
     !((control >> 15) % 2 == 1) | (stands & (others & !phy.link))
 }

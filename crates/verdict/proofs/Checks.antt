@@ -72,6 +72,16 @@ refused-first fault n k (suc left) c j e = go (fault k) refl e (refused-first fa
           earlier-pass = λ i h l. absurd (omega arith);
         }
 
+-- no refusal has the number 0
+pub refused-number : (fault : ℕ → ℕ) (n k left c j : ℕ) → inOrder fault k left (Done n) ≡ Refused c j → c ≡ 0 → ⊥
+unfolding inOrder
+refused-number fault n k zero c j e z = let d : _≡_ {A = ℕ} 0 1 = cc in omega arith
+refused-number fault n k (suc left) c j e z = go (fault k) e (λ e. refused-number fault n (suc k) left c j e z)
+  where
+    go : (f : ℕ) → refuse f k (inOrder fault (suc k) left (Done n)) ≡ Refused c j → (inOrder fault (suc k) left (Done n) ≡ Refused c j → ⊥) → ⊥
+    go zero e rest = rest e
+    go (suc f) e rest = let number : suc f ≡ c = cc in omega arith
+
 -- where the answer is done every record passes
 pub done-all-pass : (fault : ℕ → ℕ) (n k left m : ℕ) → inOrder fault k left (Done n) ≡ Done m → (n ≡ m) × ((i : ℕ) → k ≤ i → i < k + left → fault i ≡ 0)
 unfolding inOrder

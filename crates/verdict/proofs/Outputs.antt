@@ -1,4 +1,4 @@
--- Outputs: a promise fixes the answer and every byte, and a loop fills an output from its start.
+-- Outputs: a promise fixes the answer and every byte, and a loop fills an output, or an array, from its start.
 use Prim.Native.Nat.{ℕ, suc, _+_, _*_, _-_, _≤_, _<_}
 use mathlib.Core.Path.{_≡_, refl, sym, ap, _∙_}
 use mathlib.Core.List.{List, [], _∷_, _++_, append-assoc, append-nil}
@@ -26,9 +26,9 @@ refuses result out e p = record { verdict = p ∙ sym e; output = rw e }
 pub succeeds : {answer : Verdict} {n : ℕ} {result out out′ : List ℕ} → answer ≡ Done n → out′ ≡ written result out → Writes answer result out (Done n) out′
 succeeds e p = record { verdict = sym e; output = rw e p }
 
--- An output filled value by value
-module _ (f : ℕ → ℕ) (out : List ℕ) where
-  abbrev pub filled : ℕ → List ℕ
+-- An output filled value by value: the first i values are put, the others stand
+module _ {A : Type 0} (f : ℕ → A) (out : List A) where
+  abbrev pub filled : ℕ → List A
   filled i = tabulate i f ++ drop i out
 
   pub length-filled : (i : ℕ) → i ≤ length out → length (filled i) ≡ length out
@@ -38,7 +38,7 @@ module _ (f : ℕ → ℕ) (out : List ℕ) where
   pub fill-next : (i : ℕ) → i < length out → set (filled i) i (f i) ≡ filled (i + 1)
   unfolding tabulate
   fill-next i h =
-      rw (drop-cons out i 0 h, set-at (tabulate i f) _ _ (f i) i (length-tabulate i f), add-one)
+      rw (drop-cons out i (f i) h, set-at (tabulate i f) _ _ (f i) i (length-tabulate i f), add-one)
       (sym (append-assoc (tabulate i f) (f i ∷ []) (drop (suc i) out)))
 
 -- An output filled piece by piece, each w values long

@@ -10,10 +10,10 @@ use Rattle.verdict.specs.declared.Verdict.the-variants.{Done, Refused}
 use Rattle.verdict.specs.File.{inOrder, fileVerdict}
 use Rattle.verdict.specs.Output.{tabulate}
 use Rattle.verdict.proofs.Checks.{next, stop, finish}
+use Rattle.verdict.proofs.Outputs.{filled, fill-next}
 use Rattle.phy.specs.Sound.{blank}
 use Rattle.board.specs.Record.{recordOf, refusalOf}
 use Rattle.board.specs.Load.{phyAt, recordFault, boardVerdict, boardOf, loadedBy, loaded}
-use Rattle.board.proofs.Filled.{filled, fill}
 use Rattle.board.proofs.Records.{good-passes, bad-fails}
 use Rattle.board.proofs.Loading.{found-fault}
 use borrow.Author.Needs.{needs}
@@ -111,7 +111,7 @@ loop-again c =
     let same = found-fault file (replicate 32 blank) (turn .k) (turn .phys) _ _ (turn .inv .1) (c .before .before .before .before .before .phy-at .ensures) (c .before .before .before .has-address .ensures) in
     let passes = good-passes (recordFault file (turn .k)) (ap recordOf (sym same) ∙ sym (c .before .before .judge .ensures) ∙ c .enum-told .given .1) in (
       search needs,
-      fill (phyAt file) (replicate 32 blank) _ _ _ (search needs) (turn .inv .1) (c .before .before .before .before .before .phy-at .ensures),
+      rw (c .before .before .before .before .before .phy-at .ensures, turn .inv .1) (fill-next (phyAt file) (replicate 32 blank) (turn .k) (search needs)),
       turn .inv .2 ∙ next (recordFault file) _ _ (turn .k) (search needs) passes,
     )
 

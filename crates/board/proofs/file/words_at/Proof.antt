@@ -6,8 +6,8 @@ use native.Mathlib.Omega.{arith}
 use lib.ListN.{replicate}
 use Rattle.verdict.specs.Output.{tabulate}
 use Rattle.verdict.specs.File.{wordAt}
+use Rattle.verdict.proofs.Outputs.{filled, fill-next}
 use Rattle.board.specs.Load.{wordsAt}
-use Rattle.board.proofs.Filled.{filled, fill}
 use borrow.Author.Needs.{needs}
 use Rattle.board.proofs.file.words_at.Statement.{statement}
 use Rattle.board.proofs.file.words_at.Tie as tie
@@ -44,7 +44,7 @@ loop-less : tie.Need-loop-less Inv-loop μ-loop
 loop-less c = search needs
 
 loop-again : tie.Need-loop-again Inv-loop μ-loop
-loop-again c = (search needs, fill _ (replicate 32 0) _ _ _ (search needs) (c .before .before .loop .inv .1) (c .word-at .ensures))
+loop-again c = (search needs, rw (c .word-at .ensures, c .before .before .loop .inv .1) (fill-next _ (replicate 32 0) _ (search needs)))
 
 returns : tie.Need-returns Inv-loop μ-loop
 unfolding wordsAt

@@ -10,14 +10,14 @@ use Rattle.board.proofs.record.words_right.Tie as tie
 derived-control-requires : tie.Need-derived-control-requires
 derived-control-requires c κs = search needs
 
-able10-requires : tie.Need-able10-requires
-able10-requires c κs = search needs
+able-10-requires : tie.Need-able-10-requires
+able-10-requires c κs = search needs
 
-able100-requires : tie.Need-able100-requires
-able100-requires c κs = search needs
+able-100-requires : tie.Need-able-100-requires
+able-100-requires c κs = search needs
 
-able1000-requires : tie.Need-able1000-requires
-able1000-requires c κs = search needs
+able-1000-requires : tie.Need-able-1000-requires
+able-1000-requires c κs = search needs
 
 mul-result : tie.Need-mul-result
 mul-result c = search needs
@@ -29,16 +29,16 @@ add-result c =
 
 returns : tie.Need-returns
 unfolding wordsRight
-returns c = rw (c .before .before .before .derived-control .ensures, c .before .before .able10 .ensures, c .before .able100 .ensures, c .able1000 .ensures)
+returns c = rw (c .before .before .before .derived-control .ensures, c .before .before .able-10 .ensures, c .before .able-100 .ensures, c .able-1000 .ensures)
 
 pub words-right-spec : {M : Type 1} → statement M
 words-right-spec =
     tie.close
     (tie.spec
     derived-control-requires
-    able10-requires
-    able100-requires
-    able1000-requires
+    able-10-requires
+    able-100-requires
+    able-1000-requires
     mul-result
     add-result
     returns)
