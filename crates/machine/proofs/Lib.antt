@@ -4,3 +4,4 @@ pub mod Transactions
 pub mod Reading
 pub mod Transacts
 pub mod Laws
+pub mod Kept
