@@ -14,3 +14,4 @@ pub mod Stands
 pub mod Accepts
 pub mod Begins
 pub mod Outcomes
+pub mod Kept
