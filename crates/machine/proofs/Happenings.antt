@@ -47,6 +47,17 @@ module _ (events : List ℕ) (limit n k : ℕ) (board : Board) where
       let left : n - k ≡ 0 = omega arith in
       rw left
 
+-- no event changes how many PHYs there are
+pub happened-count : (events : List ℕ) (limit left k : ℕ) (board : Board) → happenedFrom events limit k left board .board .count ≡ board .count
+unfolding happenedFrom actOnAll
+happened-count events limit zero k board = refl
+happened-count events limit (suc left) k board = go (leb (eventClock events k) limit) (happened-count events limit left (suc k) (actOnAll (eventAct events k) board))
+  where
+    go : (b : Bool) → happenedFrom events limit (suc k) left (actOnAll (eventAct events k) board) .board .count ≡ board .count
+        → cond b (happenedFrom events limit (suc k) left (actOnAll (eventAct events k) board)) (record { board = board; next = k }) .board .count ≡ board .count
+    go true rest = rest
+    go false rest = refl
+
 -- clocks never fall from record to record
 abbrev pub Rising : List ℕ → Type 0
 Rising events = (i j : ℕ) → i ≤ j → j < records eventRecord events → eventClock events i ≤ eventClock events j

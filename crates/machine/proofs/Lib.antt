@@ -7,4 +7,7 @@ pub mod Quiet
 pub mod Stands
 pub mod Accepts
 pub mod Begins
-pub mod Outcomes
+pub mod Transactions
+pub mod Reading
+pub mod Transacts
+pub mod Laws

@@ -1,13 +1,14 @@
 -- What acts on every PHY of a board at once, and the events of a file one after the other: the document's sentences stand in Events and Plain.
-use Prim.Native.Nat.{ℕ, zero, suc}
+use Prim.Native.Nat.{ℕ, zero, suc, _-_}
 use mathlib.Core.Bool.{cond}
 use mathlib.Core.List.{List, map}
 use lib.Dec.{eqb, leb}
+use Rattle.verdict.specs.File.{records}
 use Rattle.phy.specs.declared.Phy.{Phy}
 use Rattle.phy.specs.Events.{event}
 use Rattle.phy.specs.Clock.{afterHeader, afterFrame}
 use Rattle.board.specs.declared.Board.{Board}
-use Rattle.board.specs.Events.{eventClock, eventAddress, eventCode}
+use Rattle.board.specs.Events.{eventRecord, eventClock, eventAddress, eventCode}
 use Rattle.machine.specs.declared.acts.Act.{Act}
 use Rattle.machine.specs.declared.acts.Act.the-variants.{Happens, HeaderEnds, FrameEnds}
 use Rattle.machine.specs.declared.events.Happened.{Happened}
@@ -34,3 +35,7 @@ happenedFrom events limit k (suc left) board =
     cond (leb (eventClock events k) limit)
     (happenedFrom events limit (suc k) left (actOnAll (eventAct events k) board))
     (record { board = board; next = k })
+
+-- from the record at index `next` on
+abbrev pub upTo : List ℕ → ℕ → ℕ → Board → Happened
+upTo events limit next board = happenedFrom events limit next (records eventRecord events - next) board

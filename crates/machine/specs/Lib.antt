@@ -6,3 +6,4 @@ pub mod Run
 pub mod Plain
 pub mod Lines
 pub mod Clocks
+pub mod Transact

@@ -6,10 +6,8 @@ use board::address_of;
 use board::clock_of;
 use board::code_of;
 ghost use mathlib.Core.Path.{_≡_};
-ghost use Prim.Native.Nat.{_-_, _≤_};
-ghost use Rattle.verdict.specs.File.{records};
-ghost use Rattle.board.specs.Events.{eventRecord};
-ghost use Rattle.machine.specs.Acts.{happenedFrom};
+ghost use Prim.Native.Nat.{_≤_};
+ghost use Rattle.machine.specs.Acts.{upTo};
 
 // What events leave: the board after them, and the index of the record that comes next.
 pub(crate) struct Happened {
@@ -25,7 +23,7 @@ pub(crate) fn happen_until(
     limit: usize,
 ) -> Happened
     requires { ⌜ board .count ≤ 32 ⌝ }
-    ensures { λ r. ⌜ r ≡ happenedFrom (now (events .entry)) limit next (records eventRecord (now (events .entry)) - next) board ⌝ }
+    ensures { λ r. ⌜ r ≡ upTo (now (events .entry)) limit next board ⌝ }
 {
     let count = events.len() / Board::EVENT_RECORD;
     while next < count {

@@ -5,10 +5,13 @@ mod clocks;
 mod events;
 mod hear;
 mod line;
+mod transact;
+mod without_wire;
 
 use board::Board;
 pub use clocks::run;
 use verdict::Verdict;
+pub use without_wire::plain;
 
 // What a machine hands back.
 pub struct Outcome {
