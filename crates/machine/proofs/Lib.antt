@@ -1,11 +1,12 @@
-pub mod HappensEffect
-pub mod LogLevels
-pub mod Places
-pub mod Happenings
-pub mod Transactions
-pub mod Reading
-pub mod Transacts
 pub mod Laws
+pub mod Places
+pub mod HappensEffect
+pub mod Happenings
+pub mod Kept
+pub mod LogLevels
+pub mod Reading
+pub mod Transactions
+pub mod Transacts
 pub mod Lines
 pub mod Turns
 pub mod Lockstep
@@ -13,5 +14,3 @@ pub mod Quiet
 pub mod Stands
 pub mod Accepts
 pub mod Begins
-pub mod Outcomes
-pub mod Kept

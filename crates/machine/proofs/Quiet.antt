@@ -1,29 +1,31 @@
 -- A clock by the lines alone: what is heard of them is what the PHYs drive, and where none acts they follow by themselves.
-use Prim.Native.Nat.{ℕ, zero, suc, _+_, _*_, _≤_, _<_}
+use Prim.Native.Nat.{ℕ, zero, suc, _+_, _*_, _/_, _%_, _^_, _≤_, _<_}
 use mathlib.Core.Path.{_≡_, refl, sym, ap, ap₂, _∙_}
 use mathlib.Core.Bool.{Bool, true, false, _&&_, _||_, cond, and-true, and-assoc}
 use mathlib.Core.List.{List, [], _∷_, map}
 use native.Mathlib.Omega.{arith}
 use lib.Dec.{leb, eqb}
-use borrow.Author.Tests.{le-leb}
+use borrow.Author.Tests.{le-leb, eqb-true}
 use Rattle.verdict.specs.Lists.{All}
 use Rattle.verdict.proofs.Elements.{map-then}
 use Rattle.wire.specs.declared.Drive.{Drive}
 use Rattle.wire.specs.declared.Drive.the-variants.{Released, Driven}
 use Rattle.wire.specs.declared.Follower.{Follower}
 use Rattle.wire.specs.declared.Follower.the-variants.{Hunting, Inside}
-use Rattle.wire.specs.Follower.{follow}
+use Rattle.wire.specs.declared.Header.{Header}
+use Rattle.wire.specs.Follower.{oneMore, follow, headerOf, headerSeen}
 use Rattle.wire.specs.Wire.{asBit, levelOf, drivers}
 use Rattle.phy.specs.declared.Phy.{Phy}
-use Rattle.phy.specs.Fields.{withLine, withFollower}
+use Rattle.phy.specs.Fields.{withLine, withFollower, withCaptured}
 use Rattle.phy.specs.Registers.{implements}
-use Rattle.phy.specs.Clock.{enough, answers, drivesIn, drives, acts, actsIn, clock}
+use Rattle.phy.specs.Clock.{enough, answers, stores, drivesIn, drives, afterFrame, atHeader, acts, clock}
+use Rattle.phy.specs.Clock.{actsIn as Phy·actsIn}
 use Rattle.phy.proofs.Every.{neither}
 use Rattle.machine.specs.declared.line.Line.{Line}
 use Rattle.machine.specs.declared.hear.Heard.{Heard}
 use Rattle.machine.specs.Log.{isDriving, marked, maskFrom, fourBytes, flagsOf, clockRecord}
 use Rattle.machine.specs.Run.{addressesOf}
-use Rattle.machine.specs.Lines.{lineOf, lineAnswers, lineDrivesIn, lineDrives, actingIn, lineActs, lineFollows, onto, heardStation, hearsDrive, hears, heardFrom, recordOf}
+use Rattle.machine.specs.Lines.{lineOf, lineAnswers, lineDrivesIn, lineDrives, isOwn, actsIn, lineActs, captures, lineFollows, onto, heardStation, hearsDrive, hears, heardFrom, recordOf}
 
 -- Of one PHY
 -- a PHY without its line
@@ -43,19 +45,70 @@ line-drives phy = go (phy .follower)
     go (Hunting ones) = refl
     go (Inside seen bits) = refl
 
--- where a PHY does not act, its follower moves and nothing else
-pub quiet-clock : (level : Bool) (phy : Phy) → actingIn (phy .follower) ≡ false → clock level phy ≡ withFollower (follow (enough phy) level (phy .follower)) phy
-unfolding clock acts
+-- a header with another op or for another address is neither answered nor stored by, whatever its last bit
+not-answered : (header : Header) (phy : Phy) → isOwn 2 header (lineOf phy) ≡ false → answers header phy ≡ false
+unfolding answers
+not-answered header phy other = go (eqb (header .op) 2) (eqb (header .address) (phy .address)) other
+  where
+    go : (a b : Bool) → a && b ≡ false → a && (b && implements (header .register) phy) ≡ false
+    go false b e = refl
+    go true false e = refl
+    go true true e = absurd (let z : _≡_ {A = ℕ} 0 1 = cc in omega arith)
+
+not-stored : (header : Header) (phy : Phy) → isOwn 1 header (lineOf phy) ≡ false → stores header phy ≡ false
+unfolding stores
+not-stored header phy other = other
+
+-- op and address of a header do not go by its last bit, nor does anything of it by the frame's last bit
+same-header : (bits : ℕ) (level : Bool) (op : ℕ) (line : Line) → isOwn op (headerSeen 14 (oneMore bits level)) line ≡ isOwn op (headerSeen 14 (oneMore bits false)) line
+unfolding headerOf
+same-header bits false op line = refl
+same-header bits true op line =
+    let m = bits % 2 ^ 31 in
+    let o : (m * 2 + 1) / 2 ^ 0 / 2 ^ 10 ≡ (m * 2) / 2 ^ 0 / 2 ^ 10 = omega arith in
+    let a : (m * 2 + 1) / 2 ^ 0 / 2 ^ 5 ≡ (m * 2) / 2 ^ 0 / 2 ^ 5 = omega arith in
+    ap₂ (λ x y. eqb (x % 4) op && eqb (y % 32) (line .address)) o a
+
+same-frame : (bits : ℕ) (level : Bool) → headerSeen 32 (oneMore bits level) ≡ headerSeen 32 (oneMore bits false)
+same-frame bits false = refl
+same-frame bits true =
+    let m = bits % 2 ^ 31 in
+    let h : (m * 2 + 1) / 2 ^ 18 ≡ (m * 2) / 2 ^ 18 = omega arith in
+    ap headerOf h
+
+header-silent : (header : Header) (phy : Phy) → answers header phy ≡ false → atHeader header phy ≡ phy
+unfolding atHeader
+header-silent header phy silent = rw silent
+
+frame-silent : (header : Header) (word : ℕ) (phy : Phy) → stores header phy ≡ false → afterFrame header word phy ≡ phy
+unfolding afterFrame
+frame-silent header word phy silent = rw silent
+
+-- where a PHY does not act, its follower moves, and a frame's end captures nothing any more
+pub quiet-clock : (level : Bool) (phy : Phy) → lineActs (lineOf phy) ≡ false → clock level phy ≡ withLine (follow (enough phy) level (phy .follower)) (captures (phy .follower) (phy .captured)) phy
+unfolding clock acts actsIn
 quiet-clock level phy quiet = ap (withFollower (follow (enough phy) level (phy .follower))) (go (phy .follower) quiet)
   where
-    unmoved : (seen bits : ℕ) → eqb seen 13 ≡ false → eqb seen 31 ≡ false → acts seen bits phy ≡ phy
-    unmoved seen bits n13 n31 = rw (n13, n31)
+    at-header : (bits : ℕ) → isOwn 2 (headerSeen 14 (oneMore bits false)) (lineOf phy) ≡ false → atHeader (headerSeen 14 (oneMore bits level)) phy ≡ phy
+    at-header bits other = header-silent (headerSeen 14 (oneMore bits level)) phy (not-answered _ phy (same-header bits level 2 (lineOf phy) ∙ other))
 
-    go : (f : Follower) → actingIn f ≡ false → actsIn f level phy ≡ phy
+    at-frame : (bits : ℕ) → isOwn 1 (headerSeen 32 (oneMore bits false)) (lineOf phy) ≡ false → afterFrame (headerSeen 32 (oneMore bits level)) (oneMore bits level % 2 ^ 16) phy ≡ phy
+    at-frame bits other = frame-silent _ _ phy (not-stored _ phy (ap (λ h. isOwn 1 h (lineOf phy)) (same-frame bits level) ∙ other))
+
+    none-both : (seen : ℕ) {A : Type 0} → eqb seen 13 ≡ true → eqb seen 31 ≡ true → A
+    none-both seen a b = absurd (omega (arith, eqb-true seen 13 a, eqb-true seen 31 b))
+
+    by : (seen bits : ℕ) (a b : Bool) → cond a (isOwn 2 (headerSeen 14 (oneMore bits false)) (lineOf phy)) (cond b (isOwn 1 (headerSeen 32 (oneMore bits false)) (lineOf phy)) false) ≡ false → eqb seen 13 ≡ a → eqb seen 31 ≡ b → acts seen (oneMore bits level) phy ≡ withCaptured (cond b 0 (phy .captured)) phy
+    by seen bits true true other e13 e31 = none-both seen e13 e31
+    by seen bits true false other e13 e31 = rw e13 (at-header bits other)
+    by seen bits false true other e13 e31 = rw (e13, e31) (ap (withCaptured 0) (at-frame bits other))
+    by seen bits false false other e13 e31 = rw (e13, e31)
+
+    go : (f : Follower) → actsIn f (lineOf phy) ≡ false → Phy·actsIn f level phy ≡ withCaptured (captures f (phy .captured)) phy
     go (Hunting ones) e = refl
-    go (Inside seen bits) e = let both = neither (eqb seen 13) (eqb seen 31) e in unmoved seen _ (both .0) (both .1)
+    go (Inside seen bits) e = by seen bits (eqb seen 13) (eqb seen 31) e refl refl
 
-module _ (level : Bool) (phy : Phy) (quiet : actingIn (phy .follower) ≡ false) where
+module _ (level : Bool) (phy : Phy) (quiet : lineActs (lineOf phy) ≡ false) where
   pub quiet-line : lineFollows level (lineOf phy) ≡ lineOf (clock level phy)
   unfolding lineFollows enough
   quiet-line = sym (ap lineOf (quiet-clock level phy quiet))

@@ -4,7 +4,7 @@ pub mod Acts
 pub mod Log
 pub mod Run
 pub mod Plain
-pub mod Computing
 pub mod Transact
 pub mod Lines
 pub mod Clocks
+pub mod Computing

@@ -5,14 +5,14 @@ use mathlib.Core.List.{List, [], _∷_}
 use lib.ListN.{getD}
 use lib.Dec.{eqb, ltb, leb}
 use Rattle.frame.specs.Frame.{headerBits, frameBits}
-use Rattle.frame.specs.List.{read}
+use Rattle.frame.specs.List.{read, write}
 use Rattle.wire.specs.declared.Drive.{Drive}
 use Rattle.wire.specs.declared.Drive.the-variants.{Released, Driven}
 use Rattle.wire.specs.declared.Follower.{Follower}
 use Rattle.wire.specs.declared.Follower.the-variants.{Hunting, Inside}
 use Rattle.wire.specs.declared.Header.{Header}
 use Rattle.wire.specs.Wire.{asBit}
-use Rattle.wire.specs.Follower.{follow, headerSeen}
+use Rattle.wire.specs.Follower.{oneMore, follow, headerSeen}
 use Rattle.phy.specs.declared.Phy.{Phy}
 use Rattle.phy.specs.Abilities.{one}
 use Rattle.phy.specs.Words.{setBit}
@@ -53,15 +53,25 @@ lineDrivesIn (Inside seen bits) line =
 abbrev pub lineDrives : Line → Drive
 lineDrives line = lineDrivesIn (line .follower) line
 
--- whether the next clock is one in which a PHY acts
-abbrev pub actingIn : Follower → Bool
-actingIn (Hunting ones) = false
-actingIn (Inside seen bits) = eqb seen (headerBits - 1) || eqb seen (frameBits - 1)
+-- whether the next bit may end an own read's header or ends an own write: only there the whole PHY acts. Op and address are known before that bit, whatever its level
+abbrev pub isOwn : ℕ → Header → Line → Bool
+isOwn op header line = eqb (header .op) op && eqb (header .address) (line .address)
+
+unfoldable pub actsIn : Follower → Line → Bool
+actsIn (Hunting ones) line = false
+actsIn (Inside seen bits) line =
+    cond (eqb seen (headerBits - 1)) (isOwn read (headerSeen headerBits (oneMore bits false)) line)
+    (cond (eqb seen (frameBits - 1)) (isOwn write (headerSeen frameBits (oneMore bits false)) line)
+    false)
 
 abbrev pub lineActs : Line → Bool
-lineActs line = actingIn (line .follower)
+lineActs line = actsIn (line .follower) line
 
--- the line after any other clock
+-- the line after any other clock: a frame's end captures nothing any more
+abbrev pub captures : Follower → ℕ → ℕ
+captures (Hunting ones) captured = captured
+captures (Inside seen bits) captured = cond (eqb seen (frameBits - 1)) 0 captured
+
 unfoldable pub lineFollows : Bool → Line → Line
 lineFollows level line =
     record {
@@ -69,7 +79,7 @@ lineFollows level line =
       implemented = line .implemented;
       enough = line .enough;
       follower = follow (line .enough) level (line .follower);
-      captured = line .captured;
+      captured = captures (line .follower) (line .captured);
     }
 
 -- what a list of lines reads past its end

@@ -5,7 +5,7 @@ ghost use Rattle.phy.specs.Fields.{withLine};
 ghost use mathlib.Core.List.{_++_, map};
 ghost use lib.ListN.{take, drop};
 ghost use Rattle.phy.specs.Clock.{answerBit, clock};
-ghost use Rattle.machine.specs.Lines.{lineOf, lineAnswers, lineDrives, lineActs, lineFollows, joinedBoard};
+ghost use Rattle.machine.specs.Lines.{lineOf, lineAnswers, lineDrives, isOwn, lineActs, captures, lineFollows, joinedBoard};
 use board::Board;
 use frame::Transaction;
 use phy::Phy;
@@ -28,6 +28,8 @@ impl Line {
     const HEADER: u8 = 14;
 
     const BEFORE_ANSWER: u8 = 15;
+    // A whole frame divided by this is its header.
+    const BEHIND_HEADER: u32 = 0x4_0000;
 
     pub(crate) fn of(phy: Phy) -> Line
         ensures { λ r. ⌜ r ≡ lineOf phy ⌝ }
@@ -106,16 +108,43 @@ impl Line {
         }
     }
 
-    // Whether the next clock is the 14th or the 32nd bit of a frame, where the whole PHY acts.
+    // Whether an op and an address are a header's op and this PHY's address.
+    fn is_own(self, op: u8, header: Header) -> bool
+        ensures { λ r. ⌜ r ≡ isOwn op header self ⌝ }
+    {
+        (header.op == op) & (header.address == self.address)
+    }
+
+    // Whether the next bit may end the header of an own read, or ends an own write: the whole PHY acts then.
     pub(crate) fn acts(self) -> bool
         ensures { λ r. ⌜ r ≡ lineActs self ⌝ }
     {
         let follower = self.follower;
-        match follower {
-            Follower::Hunting(_) => false,
-            Follower::Inside(seen, _) => {
-                (seen == Line::BEFORE_HEADER) | (seen == Follower::MOST_SEEN)
+        let Follower::Inside(seen, bits) = follower else {
+            return false;
+        };
+        let shifted = bits % 2147483648 * 2;
+        match seen {
+            Line::BEFORE_HEADER => self.is_own(Transaction::READ, Header::of(shifted)),
+            Follower::MOST_SEEN => {
+                self.is_own(Transaction::WRITE, Header::of(shifted / Line::BEHIND_HEADER))
             }
+            _ => false,
+        }
+    }
+
+    // The captured word after a clock in which the PHY does not act: a frame's end captures nothing any more.
+    fn captures(self) -> u16
+        ensures { λ r. ⌜ r ≡ captures (self .follower) (self .captured) ⌝ }
+    {
+        let follower = self.follower;
+        let Follower::Inside(seen, _) = follower else {
+            return self.captured;
+        };
+        if seen == Follower::MOST_SEEN {
+            0
+        } else {
+            self.captured
         }
     }
 
@@ -130,7 +159,7 @@ impl Line {
             implemented: self.implemented,
             enough: self.enough,
             follower: next,
-            captured: self.captured,
+            captured: self.captures(),
         }
     }
 }

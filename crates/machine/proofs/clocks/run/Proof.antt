@@ -8,7 +8,7 @@ use Rattle.verdict.specs.declared.Verdict.the-variants.{Done}
 use Rattle.board.specs.Check.{checked}
 use Rattle.board.specs.Events.{eventsVerdict}
 use Rattle.machine.specs.Run.{mostSteps, stepsVerdict, running}
-use Rattle.machine.proofs.Outcomes.{hands-refusal, hands-result}
+use Rattle.machine.proofs.Laws.{refuses-back, succeeds-back}
 use Rattle.machine.proofs.Accepts.{steps-pass}
 use borrow.Author.Needs.{needs}
 use Rattle.machine.proofs.clocks.run.Statement.{statement}
@@ -44,7 +44,7 @@ enum-told-2 c = search needs
 returns : tie.Need-returns
 returns c =
     let refused = sym (c .before .before .check .ensures) ∙ c .enum-told2 .given .1 in
-    hands-refusal _ _ _ _ (rw refused) (c .enum-told2 .given .1)
+    refuses-back (rw refused) (c .enum-told2 .given .1)
 
 check-steps-requires : tie.Need-check-steps-requires
 check-steps-requires c κs = search needs
@@ -58,7 +58,7 @@ enum-told-3 c = search needs
 returns-2 : tie.Need-returns-2
 returns-2 c =
     let refused = sym (c .before .before .check-steps .ensures) ∙ c .enum-told3 .given .1 in
-    hands-refusal _ _ _ _ (rw (sound (c .before .before .before), refused)) (c .enum-told3 .given .1)
+    refuses-back (rw (sound (c .before .before .before), refused)) (c .enum-told3 .given .1)
 
 check-events-requires : tie.Need-check-events-requires
 check-events-requires c κs = search needs
@@ -72,13 +72,13 @@ enum-told-5 c = search needs
 returns-3 : tie.Need-returns-3
 returns-3 c =
     let refused = sym (c .before .before .check-events .ensures) ∙ c .enum-told5 .given .1 in
-    hands-refusal _ _ _ _ (rw (sound (c .before .before .before .before .before .before .before), stepped (c .before .before .before .before), refused)) (c .enum-told5 .given .1)
+    refuses-back (rw (sound (c .before .before .before .before .before .before .before), stepped (c .before .before .before .before), refused)) (c .enum-told5 .given .1)
 
 mul-size : tie.Need-mul-size
 mul-size c = omega (arith, counted (c .before .before .before .before))
 
 returns-4 : tie.Need-returns-4
-returns-4 c = hands-refusal _ _ _ _ (rw (sound (c .before .before .before .before .before .before .before .before), stepped (c .before .before .before .before .before), happening (c .before), lt-ltb _ _ (c .if1 .taken))) refl
+returns-4 c = refuses-back (rw (sound (c .before .before .before .before .before .before .before .before), stepped (c .before .before .before .before .before), happening (c .before), lt-ltb _ _ (c .if1 .taken))) refl
 
 clock-by-clock-requires : tie.Need-clock-by-clock-requires
 clock-by-clock-requires c κs = accepted (c .before) ∙ ap (λ n. Done (n * 5)) (counted (c .before .before .before .before .before .before) .0)
@@ -89,7 +89,7 @@ same-length c = search needs
 returns-5 : tie.Need-returns-5
 returns-5 c =
     let clocks = c .before .before .clock-by-clock .ensures in
-    hands-result _ _ _ _ (accepted (c .before .before .before .before)) (clocks .board) (clocks .logged)
+    succeeds-back (accepted (c .before .before .before .before)) (clocks .logged) (clocks .board)
 
 pub run-spec : {M : Type 1} → statement M
 run-spec =

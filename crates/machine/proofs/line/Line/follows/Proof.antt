@@ -1,3 +1,4 @@
+-- The follower moves by the level, and the word stays unless the frame ends.
 use Rattle.machine.specs.Lines.{lineFollows}
 use borrow.Author.Needs.{needs}
 use Rattle.machine.proofs.line.Line.follows.Statement.{statement}
@@ -6,9 +7,12 @@ use Rattle.machine.proofs.line.Line.follows.Tie as tie
 follow-requires : tie.Need-follow-requires
 follow-requires c κs = search needs
 
+captures-requires : tie.Need-captures-requires
+captures-requires c κs = search needs
+
 returns : tie.Need-returns
 unfolding lineFollows
-returns c = rw (c .follow .ensures)
+returns c = rw (c .before .follow .ensures, c .captures .ensures)
 
 pub follows-spec : {M : Type 1} → statement M
-follows-spec = tie.close (tie.spec follow-requires returns)
+follows-spec = tie.close (tie.spec follow-requires captures-requires returns)
