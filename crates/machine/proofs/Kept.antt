@@ -4,45 +4,20 @@ use mathlib.Core.Path.{_≡_, refl, ap, sym, subst, _∙_}
 use mathlib.Core.Bool.{Bool, true, false, cond}
 use mathlib.Core.List.{List, [], _∷_, map}
 use Rattle.verdict.specs.Lists.{All}
-use Rattle.verdict.specs.File.{records}
 use Rattle.verdict.proofs.Elements.{all-map, map-then, map-stays}
 use Rattle.frame.specs.declared.list.Transaction.{Transaction}
 use Rattle.frame.specs.Frame.{preamble}
 use Rattle.frame.specs.List.{isRead, transactions}
-use Rattle.wire.specs.Machines.{headerFor, beforeReads, beforeWrites, clocksWith, quiet, acting, afterRead, afterWrite, plainAfter, plainParties}
+use Rattle.wire.specs.Machines.{headerFor, beforeReads, beforeWrites, clocksWith, quiet, acting, leftByRead, leftByWrite, plainAfter, plainParties}
 use Rattle.phy.specs.declared.Phy.{Phy}
-use Rattle.phy.specs.Fields.{withBank}
-use Rattle.phy.specs.Events.{event}
-use Rattle.phy.specs.Typed.{Words, Typed}
-use Rattle.phy.proofs.Effects.{Effect, nothing, either, event-effect, afterHeader-effect, afterFrame-effect}
+use Rattle.phy.specs.Typed.{Typed}
+use Rattle.phy.proofs.Effects.{Effect, nothing, one-after, afterHeader-effect, afterFrame-effect}
 use Rattle.phy.proofs.Keeping.{keeps-follower, keeps-captured, keeps-typed}
 use Rattle.board.specs.declared.Board.{Board}
-use Rattle.board.specs.Events.{eventRecord, eventCode}
 use Rattle.machine.specs.Outcome.{physOf}
-use Rattle.machine.specs.Events.{isFor, happensFrom, happens}
+use Rattle.machine.specs.Events.{happens}
+use Rattle.machine.proofs.HappensEffect.{happens-effect}
 use Rattle.machine.specs.Plain.{coreWith, physAfterPlain}
-
--- one effect after another
-pub then : {f g : Phy → Phy} → Effect f → Effect g → Effect (λ phy. g (f phy))
-then {f} {g} ef eg =
-    record {
-      blind = λ l w phy. ap g (ef .blind l w phy) ∙ eg .blind l w (f phy);
-      bank = λ phy. eg .bank (f phy) ∙ ap (withBank (g (f phy) .registers) (g (f phy) .link)) (ef .bank phy);
-      fixed = λ phy h. eg .fixed (f phy) (ef .fixed phy h);
-      typed = λ phy d r. eg .typed (f phy) (subst (λ p. Words (p .defaults)) (sym (ef .bank phy)) d) (ef .typed phy d r);
-    }
-
--- the events of a clock
-happensFrom-effect : (events : List ℕ) (c left k : ℕ) → Effect (happensFrom events k left c)
-unfolding happensFrom
-happensFrom-effect events c zero k = nothing
-happensFrom-effect events c (suc left) k =
-    then
-    (either (isFor events k c) (λ l w phy. refl) (event (eventCode events k)) (λ phy. phy) (event-effect (eventCode events k)) nothing)
-    (happensFrom-effect events c left (suc k))
-
-pub happens-effect : (events : List ℕ) (c : ℕ) → Effect (happens events c)
-happens-effect events c = happensFrom-effect events c (records eventRecord events) 0
 
 -- a change of PHYs that is one effect on each
 pub record ByEffect (change : List Phy → List Phy) : Type 0 where
@@ -57,7 +32,7 @@ by-both : {f g : List Phy → List Phy} → ByEffect f → ByEffect g → ByEffe
 by-both {f} {g} bf bg =
     record {
       on-each = λ phy. bg .on-each (bf .on-each phy);
-      is-effect = then (bf .is-effect) (bg .is-effect);
+      is-effect = one-after (bf .is-effect) (bg .is-effect);
       maps = λ phys. ap g (bf .maps phys) ∙ bg .maps (map (bf .on-each) phys) ∙ map-then (bg .on-each) (bf .on-each) (λ phy. bg .on-each (bf .on-each phy)) (λ phy. refl) phys;
     }
 
@@ -76,7 +51,7 @@ module _ (events : List ℕ) where
   after-by : (m : ℕ) (t : Transaction) (c : ℕ) → ByEffect (plainAfter (coreWith events) m t c)
   after-by m t c = go (isRead t)
     where
-      go : (b : Bool) → ByEffect (λ phys. cond b (afterRead (coreWith events) m t c phys) (afterWrite (coreWith events) m t c phys))
+      go : (b : Bool) → ByEffect (λ phys. cond b (leftByRead (coreWith events) m t c phys) (leftByWrite (coreWith events) m t c phys))
       go true = acting-by (afterHeader-effect (headerFor t)) c (beforeReads m) (clocksWith m - beforeReads m)
       go false = acting-by (afterFrame-effect (headerFor t) (t .«data»)) c (beforeWrites m) (clocksWith m - beforeWrites m)
 

@@ -12,7 +12,7 @@ use Rattle.verdict.specs.Lists.{All}
 use Rattle.phy.specs.declared.Phy.{Phy}
 use Rattle.phy.specs.Sound.{nowhere}
 use Rattle.board.specs.declared.Board.{Board}
-use Rattle.board.proofs.Filled.{filled, fill}
+use Rattle.verdict.proofs.Outputs.{filled, fill}
 use Rattle.machine.specs.declared.line.Line.{Line}
 use Rattle.machine.specs.declared.hear.Heard.{Heard}
 use Rattle.machine.specs.Lines.{noLine, onto, joinedBoard, hears, heardFrom}

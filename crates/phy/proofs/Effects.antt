@@ -36,8 +36,8 @@ pub nothing : Effect (λ phy. phy)
 nothing = record { blind = λ g w phy. refl; bank = λ phy. refl; fixed = λ phy h. h; typed = λ phy d r. r }
 
 -- so is one after the other
-pub one-after : (f g : Phy → Phy) → Effect f → Effect g → Effect (λ phy. g (f phy))
-one-after f g ef eg =
+pub one-after : {f g : Phy → Phy} → Effect f → Effect g → Effect (λ phy. g (f phy))
+one-after {f} {g} ef eg =
     record {
       blind = λ l w phy. ap g (ef .blind l w phy) ∙ eg .blind l w (f phy);
       bank = λ phy. eg .bank (f phy) ∙ ap (withBank (g (f phy) .registers) (g (f phy) .link)) (ef .bank phy);

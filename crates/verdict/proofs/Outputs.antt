@@ -1,6 +1,6 @@
 -- Outputs: a promise fixes the answer and every byte, and a loop fills an output, or an array, from its start.
 use Prim.Native.Nat.{ℕ, suc, _+_, _*_, _-_, _≤_, _<_}
-use mathlib.Core.Path.{_≡_, refl, sym, ap, _∙_}
+use mathlib.Core.Path.{_≡_, refl, sym, ap, ap₂, _∙_}
 use mathlib.Core.List.{List, [], _∷_, _++_, append-assoc, append-nil}
 use native.Mathlib.Omega.{arith}
 use native.Mathlib.Nat.{suc-mul}
@@ -40,6 +40,10 @@ module _ {A : Type 0} (f : ℕ → A) (out : List A) where
   fill-next i h =
       rw (drop-cons out i (f i) h, set-at (tabulate i f) _ _ (f i) i (length-tabulate i f), add-one)
       (sym (append-assoc (tabulate i f) (f i ∷ []) (drop (suc i) out)))
+
+  -- the same of a list that is filled so far
+  pub fill : (xs : List A) (i : ℕ) (v : A) → i < length out → xs ≡ filled i → v ≡ f i → set xs i v ≡ filled (i + 1)
+  fill xs i v h so-far here = ap₂ (λ (ys : List A) (w : A). set ys i w) so-far here ∙ fill-next i h
 
 -- An output filled piece by piece, each w values long
 abbrev pub pieced : ℕ → (ℕ → List ℕ) → List ℕ → ℕ → List ℕ

@@ -6,7 +6,7 @@ use lib.ListN.{length, length-map}
 use borrow.Author.Needs.{needs}
 use Rattle.verdict.specs.Output.{tabulate}
 use Rattle.phy.specs.Clock.{clock}
-use Rattle.board.proofs.Filled.{filled}
+use Rattle.verdict.proofs.Outputs.{filled}
 use Rattle.machine.proofs.Turns.{rejoined, join-next, join-end}
 use Rattle.machine.proofs.line.clock_all.Statement.{statement}
 use Rattle.machine.proofs.line.clock_all.Tie as tie

@@ -5,7 +5,7 @@ use native.Mathlib.Omega.{arith}
 use lib.ListN.{length, length-map}
 use borrow.Author.Needs.{needs}
 use Rattle.verdict.specs.Output.{tabulate}
-use Rattle.board.proofs.Filled.{filled}
+use Rattle.verdict.proofs.Outputs.{filled}
 use Rattle.machine.proofs.Turns.{rejoined, join-next, join-end}
 use Rattle.machine.proofs.line.join_all.Statement.{statement}
 use Rattle.machine.proofs.line.join_all.Tie as tie

@@ -6,7 +6,7 @@ use lib.ListN.{length, getD, replicate, length-map}
 use borrow.Author.Needs.{needs}
 use Rattle.verdict.specs.Output.{tabulate}
 use Rattle.phy.specs.Sound.{nowhere}
-use Rattle.board.proofs.Filled.{filled, fill}
+use Rattle.verdict.proofs.Outputs.{filled, fill}
 use Rattle.machine.specs.Lines.{lineOf}
 use Rattle.machine.proofs.Turns.{filled-map}
 use Rattle.machine.proofs.line.lines_of.Statement.{statement}
