@@ -6,7 +6,7 @@ use lib.ListN.{replicate, drop}
 use lib.Dec.{eqb}
 use Rattle.verdict.specs.declared.Verdict.{Verdict}
 use Rattle.verdict.specs.declared.Verdict.the-variants.{Done, Refused}
-use Rattle.verdict.specs.File.{byteAt, wordAt, records, fileVerdict}
+use Rattle.verdict.specs.File.{byteAt, wordAt, fileVerdict}
 use Rattle.verdict.specs.Output.{tabulate}
 use Rattle.phy.specs.declared.Phy.{Phy}
 use Rattle.phy.specs.Record.{any, registerCount}

@@ -127,7 +127,10 @@ impl Line {
         match seen {
             Line::BEFORE_HEADER => self.is_own(Transaction::READ, Header::of(shifted)),
             Follower::MOST_SEEN => {
-                self.is_own(Transaction::WRITE, Header::of(shifted / Line::BEHIND_HEADER))
+                self.is_own(
+                    Transaction::WRITE,
+                    Header::of(shifted / Line::BEHIND_HEADER),
+                )
             }
             _ => false,
         }

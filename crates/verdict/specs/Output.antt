@@ -1,7 +1,7 @@
 -- Document 01, "Refusal numbers": "Nothing is written" and "Success writes the result from the output's start; later bytes stay."
 use Prim.Native.Nat.{ℕ, zero, suc}
 use mathlib.Core.Path.{_≡_}
-use mathlib.Core.List.{List, [], _∷_, _++_, map}
+use mathlib.Core.List.{List, [], _∷_, _++_}
 use lib.ListN.{length, drop}
 use lib.Dec.{ltb}
 use Rattle.verdict.specs.declared.Verdict.{Verdict}
