@@ -13,7 +13,7 @@ use borrow.Author.Tests.{ltb-false}
 use Rattle.verdict.specs.File.{byteAt, records}
 use Rattle.verdict.specs.Lists.{All}
 use Rattle.verdict.specs.Output.{tabulate, join, written}
-use Rattle.verdict.proofs.Elements.{map-then, map-stays}
+use Rattle.verdict.proofs.Elements.{map-then}
 use Rattle.verdict.proofs.Outputs.{pieced, length-pieced, piece-next, pieced-all}
 use Rattle.wire.specs.declared.Drive.{Drive}
 use Rattle.wire.specs.Wire.{stationDrive, levelOf, drivesOf, runs, driven}
@@ -33,13 +33,13 @@ use Rattle.machine.specs.Events.{happens}
 use Rattle.machine.specs.Acts.{happenedFrom}
 use Rattle.machine.specs.Log.{clockRecord}
 use Rattle.machine.specs.Run.{addressesOf, partyWith, stationDrives, atStart, physAfterRun, logOfRun}
-use Rattle.machine.specs.Lines.{lineOf, lineActs, heardStation, heardFrom, recordOf, joinedBoard}
+use Rattle.machine.specs.Lines.{lineOf, heardStation, heardFrom, recordOf, joinedBoard}
 use Rattle.machine.specs.Clocks.{Clocked}
 use Rattle.machine.proofs.Places.{with-own, phys-of-with, with-with}
 use Rattle.machine.proofs.Happenings.{Split, Leaves, split-start, one-clock}
-use Rattle.machine.proofs.Quiet.{heardOf, heard-level, heard-record, none-acts}
+use Rattle.machine.proofs.Quiet.{heardOf, heard-level, heard-record}
 use Rattle.machine.proofs.Lockstep.{physAfter, stationIn, drivesIn, addresses-stay, length-stays, happens-address, log-by-clock}
-use Rattle.machine.proofs.Stands.{piece, phys, Stands, whole, rejoins, onto-start}
+use Rattle.machine.proofs.Stands.{piece, phys, Shows, whole, joined, Stands, length-is}
 use Rattle.machine.proofs.Accepts.{Goes}
 
 -- what holds at every place holds of every element
@@ -99,11 +99,11 @@ module _ {board : Board} {steps events log₀ : List ℕ} {first : Happened} (b 
   -- before the first clock
   pub begins : Stands events steps log₀ start log₀ start (first .next) (map lineOf (start .phys)) 0
   unfolding runs tabulate join
-  begins = whole events steps log₀ start log₀ start (first .next) 0 (omega arith) refl (sym (with-own start)) (begun .splits)
+  begins = record { gone = omega arith; logged = refl; shows = whole start start (physOf start) refl start-full (sym (with-own start)); splits = begun .splits }
 
   module _ {log : List ℕ} {now : Board} {next : ℕ} {lines : List Line} {c : ℕ} (stands : Stands events steps log₀ start log now next lines c) where
     lines-are : take (board .count) lines ≡ map lineOf (phys events steps log₀ start c)
-    lines-are = ap (λ n. take n lines) (sym start-count) ∙ stands .lines-are
+    lines-are = ap (λ n. take n lines) (sym start-count) ∙ stands .shows .lines-are
 
     -- every line has an address that a mask has a bit for
     pub lines-small : All (λ line. line .address < 32) (take (board .count) lines)
@@ -130,11 +130,6 @@ module _ {board : Board} {steps events log₀ : List ℕ} {first : Happened} (b 
           ∙ heard-record (stationIn events steps (physOf start) c) (phys events steps log₀ start c)
           ∙ ap (λ places. clockRecord places (drivesIn events steps (physOf start) c)) (addresses-stay events steps (physOf start) c)
 
-      pub quiet-is : heard .acts ≡ false → All (λ line. lineActs line ≡ false) (take (start .count) lines)
-      quiet-is e =
-          subst (λ n. All (λ line. lineActs line ≡ false) (take n lines)) (sym start-count)
-          (none-acts (heardStation drive) (take (board .count) lines) (sym (ap (λ (h : Heard). h .acts) hears) ∙ e) .1)
-
       -- its record is put behind those before it
       pub put-is : (bytes : List ℕ) → bytes ≡ recordOf heard → putMid (c * 5) (c * 5 + 5 - c * 5) log bytes ≡ pieced 5 (piece events steps log₀ start) log₀ (suc c)
       unfolding clockRecord
@@ -145,17 +140,16 @@ module _ {board : Board} {steps events log₀ : List ℕ} {first : Happened} (b 
           ∙ ap (pieced 5 (piece events steps log₀ start) log₀) one
 
     -- after the last clock
-    pub ends : (after : Board) → c ≡ length steps → after ≡ joinedBoard (λ phy. phy) lines now → Clocked board steps events log₀ after log
+    pub ends : (after : Board) → c ≡ length steps → after ≡ joinedBoard lines now → Clocked board steps events log₀ after log
     unfolding clockRecord
-    ends after all joined =
+    ends after all is =
         let last : phys events steps log₀ start c ≡ physAfterRun board steps events = ap (λ k. phys events steps log₀ start k) all ∙ ap₂ (λ ss ps. runs (partyWith events) (stationDrives ss) 0 ps) (take-length steps) start-phys in
         let bytes = ap (λ places. tabulate (length steps) (λ k. clockRecord places (drivesIn events steps (physOf start) k))) same-addresses ∙ sym (log-by-clock events steps (physOf start) (addressesOf (physOf board))) in
         record {
           board =
-              joined
-              ∙ rejoins events steps log₀ start start-full stands (λ phy. phy)
-              ∙ onto-start events steps log₀ start start-full stands (map (λ phy. phy) (phys events steps log₀ start c))
-              ∙ ap (withPhys start) (map-stays (λ phy. phy) (λ phy. refl) (phys events steps log₀ start c) ∙ last)
+              is
+              ∙ joined (stands .shows) (length-is events steps log₀ start start-full stands)
+              ∙ ap (withPhys start) last
               ∙ ap (λ (b : Board). withPhys b (physAfterRun board steps events)) (begun .board-is)
               ∙ with-with board (atStart board events) same (physAfterRun board steps events);
           logged =

@@ -122,7 +122,7 @@ unfolding heardFrom hearsDrive
 level-from heard [] = sym (and-true (heard .level))
 level-from heard (line ∷ lines) = level-from (hears line heard) lines ∙ go (lineDrives line)
   where
-    go : (drive : Drive) → hearsDrive (lineActs line) (line .address) drive heard .level && levelOf (map lineDrives lines) ≡ heard .level && levelOf (drive ∷ map lineDrives lines)
+    go : (drive : Drive) → hearsDrive (line .address) drive heard .level && levelOf (map lineDrives lines) ≡ heard .level && levelOf (drive ∷ map lineDrives lines)
     go Released = refl
     go (Driven level) = and-assoc (heard .level) level (levelOf (map lineDrives lines))
 
@@ -131,7 +131,7 @@ unfolding heardFrom hearsDrive
 station-from heard [] = refl
 station-from heard (line ∷ lines) = station-from (hears line heard) lines ∙ go (lineDrives line)
   where
-    go : (drive : Drive) → hearsDrive (lineActs line) (line .address) drive heard .station ≡ heard .station
+    go : (drive : Drive) → hearsDrive (line .address) drive heard .station ≡ heard .station
     go Released = refl
     go (Driven level) = refl
 
@@ -140,7 +140,7 @@ unfolding heardFrom hearsDrive maskFrom
 mask-from heard [] = refl
 mask-from heard (line ∷ lines) = mask-from (hears line heard) lines ∙ ap (λ m. maskFrom m (map (λ line. line .address) lines) (map lineDrives lines)) (go (lineDrives line))
   where
-    go : (drive : Drive) → hearsDrive (lineActs line) (line .address) drive heard .mask ≡ marked (heard .mask) (line .address) drive
+    go : (drive : Drive) → hearsDrive (line .address) drive heard .mask ≡ marked (heard .mask) (line .address) drive
     go Released = refl
     go (Driven level) = refl
 
@@ -155,26 +155,13 @@ several-from k heard [] some several = several ∙ ap (leb 2) (let e : k ≡ k +
 several-from k heard (line ∷ lines) some several = go (lineDrives line) (λ k heard. several-from k heard lines)
   where
     go : (drive : Drive) → ((k : ℕ) (heard : Heard) → heard .some ≡ leb 1 k → heard .several ≡ leb 2 k → heardFrom heard lines .several ≡ leb 2 (k + drivers (map lineDrives lines)))
-        → heardFrom (hearsDrive (lineActs line) (line .address) drive heard) lines .several ≡ leb 2 (k + drivers (drive ∷ map lineDrives lines))
+        → heardFrom (hearsDrive (line .address) drive heard) lines .several ≡ leb 2 (k + drivers (drive ∷ map lineDrives lines))
     go Released rest = rest k _ some several
     go (Driven level) rest =
         let one : true ≡ leb 1 (suc k) = sym (le-leb 1 (suc k) (omega arith)) in
         let two : heard .several || heard .some ≡ leb 2 (suc k) = ap₂ _||_ several some ∙ two-of k in
         let e : suc k + drivers (map lineDrives lines) ≡ k + suc (drivers (map lineDrives lines)) = omega arith in
         rest (suc k) _ one two ∙ ap (leb 2) e
-
--- where nobody acts no line does
-pub none-acts : (heard : Heard) (lines : List Line) → heardFrom heard lines .acts ≡ false → (heard .acts ≡ false) × All (λ line. lineActs line ≡ false) lines
-unfolding heardFrom hearsDrive
-none-acts heard [] e = (e, tt)
-none-acts heard (line ∷ lines) e =
-    let rest = none-acts (hears line heard) lines e in
-    let both = go (lineDrives line) (rest .0) in
-    (both .0, (both .1, rest .1))
-  where
-    go : (drive : Drive) → hearsDrive (lineActs line) (line .address) drive heard .acts ≡ false → (heard .acts ≡ false) × (lineActs line ≡ false)
-    go Released e = neither (heard .acts) (lineActs line) e
-    go (Driven level) e = neither (heard .acts) (lineActs line) e
 
 module _ (station : Drive) (phys : List Phy) where
   same-drives : map lineDrives (map lineOf phys) ≡ map drives phys

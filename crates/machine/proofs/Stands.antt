@@ -4,14 +4,13 @@ use mathlib.Core.Path.{_≡_, refl, sym, ap, ap₂, subst, _∙_}
 use mathlib.Core.Bool.{Bool, true, false, _&&_}
 use mathlib.Core.List.{List, [], _∷_, _++_, map, append-nil}
 use native.Mathlib.Omega.{arith}
-use lib.ListN.{length, getD, take, drop, length-map, List·getD-map, drop-of-length-le}
-use lib.Seq.{take-at, take-length, getD-take, length-take-le}
+use lib.ListN.{length, getD, set, take, drop, length-map, List·getD-map, drop-of-length-le}
+use lib.Seq.{take-all, take-length, getD-take, drop-at, take-set-lt, drop-set-lt, map-set-same}
 use lib.Dec.{ltb, leb}
 use borrow.Author.Tests.{ltb-true, ltb-false, leb-false}
 use Rattle.verdict.specs.File.{records}
-use Rattle.verdict.specs.Lists.{All}
 use Rattle.verdict.specs.Output.{tabulate, join}
-use Rattle.verdict.proofs.Elements.{map-then, map-same}
+use Rattle.verdict.proofs.Elements.{map-stays}
 use Rattle.verdict.proofs.Lists.{tabulate-of}
 use Rattle.verdict.proofs.Outputs.{pieced}
 use Rattle.wire.specs.Wire.{levelOf, runs}
@@ -28,7 +27,7 @@ use Rattle.machine.specs.Acts.{happenedFrom}
 use Rattle.machine.specs.Log.{clockRecord}
 use Rattle.machine.specs.Run.{addressesOf}
 use Rattle.machine.specs.Lines.{lineOf, noLine, onto, lineActs, lineFollows, joinedBoard, isDue}
-use Rattle.machine.proofs.Places.{with-own, phys-of-with, with-with, with-then}
+use Rattle.machine.proofs.Places.{replaced, phys-of-with, with-with, with-then}
 use Rattle.machine.proofs.Happenings.{Rising, Split, Leaves, happened-stop, happened-finish, one-clock}
 use Rattle.machine.proofs.Turns.{within, rejoined}
 use Rattle.machine.proofs.Quiet.{bare, put-back, quiet-line, quiet-bare}
@@ -39,27 +38,103 @@ take-map f zero xs = refl
 take-map f (suc n) [] = refl
 take-map f (suc n) (x ∷ xs) = ap (λ ys. f x ∷ ys) (take-map f n xs)
 
--- lines put back onto PHYs that are the same but for their lines
-pub rejoin-all : (effect : Phy → Phy) (lines : List Line) (board : Board) (phys : List Phy) → length phys ≡ board .count → take (board .count) lines ≡ map lineOf phys → map bare (physOf board) ≡ map bare phys → joinedBoard effect lines board ≡ withPhys board (map effect phys)
-unfolding joinedBoard
-rejoin-all effect lines board phys long lines-are bares =
-    ap (withPhys board) (sym (tabulate-of (board .count) (rejoined effect lines board) (map effect phys) (effect nowhere) (length-map phys effect ∙ long) (λ i l. List·getD-map effect phys i nowhere ∙ ap effect (sym (at i l)))))
-  where
-    at : (i : ℕ) → i < board .count → onto (getD lines i noLine) (getD (board .phys) i nowhere) ≡ getD phys i nowhere
-    at i l =
-        let here : i < length (map lineOf phys) = omega (arith, length-map phys lineOf) in
-        let line : getD lines i noLine ≡ lineOf (getD phys i nowhere) = sym (getD-take (board .count) lines i noLine l) ∙ ap (λ xs. getD xs i noLine) lines-are ∙ within (map lineOf phys) i noLine (lineOf nowhere) here ∙ List·getD-map lineOf phys i nowhere in
-        let bare-one : bare (getD (board .phys) i nowhere) ≡ bare (getD phys i nowhere) = sym (List·getD-map bare (physOf board) i nowhere ∙ ap bare (getD-take (board .count) (board .phys) i nowhere l)) ∙ ap (λ xs. getD xs i (bare nowhere)) bares ∙ List·getD-map bare phys i nowhere in
-        rw line (put-back (getD phys i nowhere) (getD (board .phys) i nowhere) bare-one)
+map-set : {A B : Type 0} (f : A → B) (xs : List A) (i : ℕ) (v : A) → map f (set xs i v) ≡ set (map f xs) i (f v)
+map-set f [] i v = refl
+map-set f (x ∷ xs) zero v = refl
+map-set f (x ∷ xs) (suc i) v = ap (λ ys. f x ∷ ys) (map-set f xs i v)
 
--- lines that follow by themselves, where no PHY acts
-pub follow-lines : (level : Bool) (phys : List Phy) → All (λ line. lineActs line ≡ false) (map lineOf phys) → map (lineFollows level) (map lineOf phys) ≡ map lineOf (map (clock level) phys)
-follow-lines level [] quiet = refl
-follow-lines level (phy ∷ phys) quiet = ap₂ (λ l ls. l ∷ ls) (quiet-line level phy (quiet .0)) (follow-lines level phys (quiet .1))
+-- A board and its lines show PHYs: the board's PHYs are the same but for their lines, and the lines are theirs. The rest of the board is as at the start
+pub record Shows (start now : Board) (lines : List Line) (phys : List Phy) : Type 0 where
+  pub counted : now .count ≡ start .count
+  pub beyond : drop (start .count) (now .phys) ≡ drop (start .count) (start .phys)
+  pub bares : map bare (take (start .count) (now .phys)) ≡ map bare phys
+  pub lines-are : take (start .count) lines ≡ map lineOf phys
 
-pub bare-stays : (level : Bool) (phys : List Phy) → All (λ line. lineActs line ≡ false) (map lineOf phys) → map bare (map (clock level) phys) ≡ map bare phys
-bare-stays level [] quiet = refl
-bare-stays level (phy ∷ phys) quiet = ap₂ (λ p ps. p ∷ ps) (quiet-bare level phy (quiet .0)) (bare-stays level phys (quiet .1))
+-- where the PHYs are whole
+pub whole : (start now : Board) (phys : List Phy) → length phys ≡ length (physOf start) → length (physOf start) ≡ start .count → now ≡ withPhys start phys → Shows start now (map lineOf (now .phys)) phys
+whole start now phys same full is =
+    let own = phys-of-with start phys same in
+    subst (λ (b : Board). Shows start b (map lineOf (b .phys)) phys) (sym is)
+    record {
+      counted = refl;
+      beyond = drop-at phys (drop (start .count) (start .phys)) (start .count) (same ∙ full);
+      bares = ap (map bare) own;
+      lines-are = take-map lineOf (start .count) (withPhys start phys .phys) ∙ ap (map lineOf) own;
+    }
+
+module _ {start now : Board} {lines : List Line} {phys : List Phy} (shows : Shows start now lines phys) where
+  -- one PHY more is another, as its line shows
+  module _ (i : ℕ) (there : i < start .count) (phy after : Phy) (line : Line) (line-is : line ≡ lineOf after) where
+    lines-set : take (start .count) (set lines i line) ≡ map lineOf (set phys i after)
+    lines-set =
+        take-set-lt (start .count) lines i line there
+        ∙ ap₂ (λ ls l. set ls i l) (shows .lines-are) line-is
+        ∙ sym (map-set lineOf phys i after)
+
+    -- it acted: the whole PHY is put in its place
+    pub acted : phy ≡ after → Shows start (record { count = now .count; phys = set (now .phys) i phy }) (set lines i line) (set phys i after)
+    acted same =
+        record {
+          counted = shows .counted;
+          beyond = drop-set-lt (start .count) (now .phys) i phy there ∙ shows .beyond;
+          bares =
+              ap (map bare) (take-set-lt (start .count) (now .phys) i phy there)
+              ∙ map-set bare (take (start .count) (now .phys)) i phy
+              ∙ ap₂ (λ ps p. set ps i (bare p)) (shows .bares) same
+              ∙ sym (map-set bare phys i after);
+          lines-are = lines-set;
+        }
+
+    -- it followed: nothing else of it changed
+    pub followed : bare after ≡ bare (getD phys i nowhere) → Shows start now (set lines i line) (set phys i after)
+    followed same =
+        record {
+          counted = shows .counted;
+          beyond = shows .beyond;
+          bares = shows .bares ∙ sym (map-set-same bare phys i after nowhere same);
+          lines-are = lines-set;
+        }
+
+  module _ (long : length phys ≡ start .count) where
+    -- the line at a place, and its PHY put together
+    module _ (i : ℕ) (there : i < start .count) where
+      pub line-at : getD lines i noLine ≡ lineOf (getD phys i nowhere)
+      line-at =
+          let here : i < length (map lineOf phys) = omega (arith, length-map phys lineOf) in
+          sym (getD-take (start .count) lines i noLine there)
+          ∙ ap (λ xs. getD xs i noLine) (shows .lines-are)
+          ∙ within (map lineOf phys) i noLine (lineOf nowhere) here
+          ∙ List·getD-map lineOf phys i nowhere
+
+      pub joined-at : onto (getD lines i noLine) (getD (now .phys) i nowhere) ≡ getD phys i nowhere
+      joined-at =
+          let p = getD phys i nowhere in
+          let q = getD (now .phys) i nowhere in
+          let same : bare q ≡ bare p = sym (List·getD-map bare (take (start .count) (now .phys)) i nowhere ∙ ap bare (getD-take (start .count) (now .phys) i nowhere there)) ∙ ap (λ xs. getD xs i (bare nowhere)) (shows .bares) ∙ List·getD-map bare phys i nowhere in
+          rw line-at (put-back p q same)
+
+    -- A turn over the lines in a clock, by whether the PHY may act
+    module _ (i : ℕ) (there : i < start .count) (level : Bool) (line : Line) where
+      pub turn-acts : (phy : Phy) → phy ≡ clock level (onto (getD lines i noLine) (getD (now .phys) i nowhere)) → line ≡ lineOf phy → Shows start (record { count = now .count; phys = set (now .phys) i phy }) (set lines i line) (set phys i (clock level (getD phys i nowhere)))
+      turn-acts phy is line-is =
+          let same : phy ≡ clock level (getD phys i nowhere) = is ∙ ap (clock level) (joined-at i there) in
+          acted i there phy (clock level (getD phys i nowhere)) line (line-is ∙ ap lineOf same) same
+
+      pub turn-follows : lineActs (getD lines i noLine) ≡ false → line ≡ lineFollows level (getD lines i noLine) → Shows start now (set lines i line) (set phys i (clock level (getD phys i nowhere)))
+      turn-follows quiet is =
+          let p = getD phys i nowhere in
+          let quiet-phy : lineActs (lineOf p) ≡ false = sym (ap lineActs (line-at i there)) ∙ quiet in
+          followed i there p (clock level p) line (is ∙ ap (lineFollows level) (line-at i there) ∙ quiet-line level p quiet-phy) (quiet-bare level p quiet-phy)
+
+    -- the board with its lines put back has the PHYs
+    pub joined : joinedBoard lines now ≡ withPhys start phys
+    unfolding joinedBoard
+    joined =
+        let all = sym (tabulate-of (now .count) (rejoined lines now) phys nowhere (long ∙ sym (shows .counted)) (λ i l. sym (joined-at i (omega (arith, shows .counted))))) in
+        λ j. record {
+          count = shows .counted j;
+          phys = (ap₂ (λ ps n. ps ++ drop n (now .phys)) all (shows .counted) ∙ ap (λ qs. phys ++ qs) (shows .beyond)) j;
+        }
 
 -- where no record is due the events of the clock change nothing
 module _ (events : List ℕ) (rising : Rising events) (c next : ℕ) (split : Split events c next) (due : isDue events next c ≡ false) where
@@ -93,73 +168,40 @@ module _ (events steps log₀ : List ℕ) (start : Board) where
   pub record Stands (log : List ℕ) (now : Board) (next : ℕ) (lines : List Line) (c : ℕ) : Type 0 where
     pub gone : c ≤ length steps
     pub logged : log ≡ pieced 5 piece log₀ c
-    pub on-board : now ≡ withPhys start (physOf now)
-    pub bares : map bare (physOf now) ≡ map bare (phys c)
-    pub lines-are : take (start .count) lines ≡ map lineOf (phys c)
+    pub shows : Shows start now lines (phys c)
     pub splits : Split events (suc c) next
 
-  -- where the PHYs are whole
-  pub whole : (log : List ℕ) (now : Board) (next c : ℕ) → c ≤ length steps → log ≡ pieced 5 piece log₀ c → now ≡ withPhys start (phys c) → Split events (suc c) next → Stands log now next (map lineOf (now .phys)) c
-  whole log now next c gone logged is splits =
-      let own = phys-of-with start (phys c) (length-stays events steps (physOf start) c) in
-      subst (λ (b : Board). Stands log b next (map lineOf (b .phys)) c) (sym is)
-      record {
-        gone = gone;
-        logged = logged;
-        on-board = ap (withPhys start) (sym own);
-        bares = ap (map bare) own;
-        lines-are = take-map lineOf (start .count) (withPhys start (phys c) .phys) ∙ ap (map lineOf) own;
-        splits = splits;
-      }
-
   module _ {log : List ℕ} {now : Board} {next : ℕ} {lines : List Line} {c : ℕ} (full : length (physOf start) ≡ start .count) (stands : Stands log now next lines c) where
-    pub counted : now .count ≡ start .count
-    counted = ap (λ (b : Board). b .count) (stands .on-board)
+    pub length-is : length (phys c) ≡ start .count
+    length-is = length-stays events steps (physOf start) c ∙ full
 
-    same-length : length (physOf now) ≡ length (physOf start)
-    same-length = sym (length-map (physOf now) bare) ∙ ap length (stands .bares) ∙ length-map (phys c) bare ∙ length-stays events steps (physOf start) c
-
-    -- the board with its lines put back, each PHY after an effect
-    pub rejoins : (effect : Phy → Phy) → joinedBoard effect lines now ≡ withPhys now (map effect (phys c))
-    rejoins effect =
-        rejoin-all effect lines now (phys c) (length-stays events steps (physOf start) c ∙ full ∙ sym counted)
-        (ap (λ n. take n lines) counted ∙ stands .lines-are) (stands .bares)
-
-    pub onto-start : (others : List Phy) → withPhys now others ≡ withPhys start others
-    onto-start others = ap (λ (b : Board). withPhys b others) (stands .on-board) ∙ with-with start (physOf now) same-length others
-
-    module _ (rising : Rising events) (more : c < length steps) (log′ : List ℕ) (level : Bool) (put : log′ ≡ pieced 5 piece log₀ (suc c)) (heard : level ≡ levelOf (drivesIn events steps (physOf start) c)) where
+    -- one clock more: the record is put, and all have sampled the level
+    module _ (rising : Rising events) (more : c < length steps) (log′ : List ℕ) (level : Bool) (put : log′ ≡ pieced 5 piece log₀ (suc c)) (heard : level ≡ levelOf (drivesIn events steps (physOf start) c)) (now′ : Board) (lines′ : List Line) (sampled : Shows start now′ lines′ (map (clock level) (phys c))) where
       after-clock : phys (suc c) ≡ map (happens events (suc c)) (map (clock level) (phys c))
       after-clock = phys-next events steps (physOf start) c more ∙ ap (λ l. map (happens events (suc c)) (map (clock l) (phys c))) (sym heard)
 
-      -- a clock in which whole PHYs are clocked, and the events after it
-      pub slow : (clocked : Board) (happened : Happened) → clocked ≡ joinedBoard (clock level) lines now → happened ≡ happenedFrom events (suc c) next (records eventRecord events - next) clocked
-          → Stands log′ (happened .board) (happened .next) (map lineOf (happened .board .phys)) (suc c)
-      slow clocked happened joined is =
-          let leaves = subst (λ (r : Happened). Leaves events (suc (suc c)) (map (happens events (suc c))) clocked r) (sym is) (one-clock events rising (suc c) next clocked (stands .splits)) in
-          let same : length (map (clock level) (phys c)) ≡ length (physOf now) = length-map (phys c) (clock level) ∙ length-stays events steps (physOf start) c ∙ sym same-length in
-          let through = with-then now clocked (map (clock level) (phys c)) (map (happens events (suc c))) same (joined ∙ rejoins (clock level)) in
-          whole log′ (happened .board) (happened .next) (suc c) (omega arith) put
-          (leaves .board-is ∙ through ∙ ap (withPhys now) (sym after-clock) ∙ onto-start (phys (suc c)))
-          (leaves .splits)
-
-      -- a clock by the lines alone
-      pub fast : (lines′ : List Line) → lines′ ≡ map (lineFollows level) (take (start .count) lines) ++ drop (start .count) lines
-          → All (λ line. lineActs line ≡ false) (take (start .count) lines) → isDue events next (suc c) ≡ false → Stands log′ now next lines′ (suc c)
-      fast lines′ follows quiet due =
-          let quiet-phys = subst (All (λ line. lineActs line ≡ false)) (stands .lines-are) quiet in
+      -- no event is due
+      pub undue : isDue events next (suc c) ≡ false → Stands log′ now′ next lines′ (suc c)
+      undue due =
           let unmoved : phys (suc c) ≡ map (clock level) (phys c) = after-clock ∙ none-happen events rising (suc c) next (stands .splits) due (map (clock level) (phys c)) in
-          let long : length (map (lineFollows level) (take (start .count) lines)) ≡ start .count = length-map (take (start .count) lines) (lineFollows level) ∙ ap length (stands .lines-are) ∙ length-map (phys c) lineOf ∙ length-stays events steps (physOf start) c ∙ full in
           record {
             gone = omega arith;
             logged = put;
-            on-board = stands .on-board;
-            bares = stands .bares ∙ sym (bare-stays level (phys c) quiet-phys) ∙ ap (map bare) (sym unmoved);
-            lines-are =
-                ap (take (start .count)) follows
-                ∙ take-at (map (lineFollows level) (take (start .count) lines)) (drop (start .count) lines) (start .count) long
-                ∙ ap (map (lineFollows level)) (stands .lines-are)
-                ∙ follow-lines level (phys c) quiet-phys
-                ∙ ap (map lineOf) (sym unmoved);
+            shows = subst (Shows start now′ lines′) (sym unmoved) sampled;
             splits = split-later events rising (suc c) next (stands .splits) due;
+          }
+
+      -- the events of the clock happen to the whole board
+      pub happening : (whole-board : Board) (happened : Happened) → whole-board ≡ joinedBoard lines′ now′ → happened ≡ happenedFrom events (suc c) next (records eventRecord events - next) whole-board
+          → Stands log′ (happened .board) (happened .next) (map lineOf (happened .board .phys)) (suc c)
+      happening whole-board happened is-joined is =
+          let leaves = subst (λ (r : Happened). Leaves events (suc (suc c)) (map (happens events (suc c))) whole-board r) (sym is) (one-clock events rising (suc c) next whole-board (stands .splits)) in
+          let clocked = map (clock level) (phys c) in
+          let same : length clocked ≡ length (physOf start) = length-map (phys c) (clock level) ∙ length-stays events steps (physOf start) c in
+          let through = with-then start whole-board clocked (map (happens events (suc c))) same (is-joined ∙ joined sampled (same ∙ full)) in
+          record {
+            gone = omega arith;
+            logged = put;
+            shows = whole start (happened .board) (phys (suc c)) (length-stays events steps (physOf start) (suc c)) full (leaves .board-is ∙ through ∙ ap (withPhys start) (sym after-clock));
+            splits = leaves .splits;
           }

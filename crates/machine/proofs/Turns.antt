@@ -4,7 +4,7 @@ use mathlib.Core.Path.{_≡_, refl, sym, ap, _∙_}
 use mathlib.Core.List.{List, [], _∷_, _++_, map, append-nil}
 use native.Mathlib.Numerals.{add-one}
 use native.Mathlib.Omega.{arith}
-use lib.ListN.{length, getD, set, take, drop, drop-of-length-le}
+use lib.ListN.{length, getD, set, take, drop, drop-of-length-le, length-append, length-map, length-take, length-drop}
 use lib.Seq.{drop-cons, getD-at, length-take-le, take-all, getD-take}
 use Rattle.verdict.specs.Output.{tabulate}
 use Rattle.verdict.proofs.Lists.{length-tabulate, tabulate-of, map-tabulate}
@@ -15,6 +15,7 @@ use Rattle.board.specs.declared.Board.{Board}
 use Rattle.verdict.proofs.Outputs.{filled, fill}
 use Rattle.machine.specs.declared.line.Line.{Line}
 use Rattle.machine.specs.declared.hear.Heard.{Heard}
+use Rattle.machine.proofs.Places.{replaced}
 use Rattle.machine.specs.Lines.{noLine, onto, joinedBoard, hears, heardFrom}
 
 module _ {A : Type 0} where
@@ -50,17 +51,27 @@ filled-map g xs d old n long same =
     let all : take n xs ≡ xs = take-all n xs (omega arith) in
     rw (none, append-nil, tabulate-map g n xs d (omega arith), all)
 
--- A board whose lines are put back place by place
-module _ (effect : Phy → Phy) (lines : List Line) (board : Board) where
-  abbrev pub rejoined : ℕ → Phy
-  rejoined i = effect (onto (getD lines i noLine) (getD (board .phys) i nowhere))
+-- elements replaced one by one
+pub length-replaced : {A : Type 0} (f : A → A) (i : ℕ) (xs : List A) → length (replaced f i xs) ≡ length xs
+length-replaced f i xs = simp (length-append, length-map, length-take, length-drop) (omega arith)
 
-  pub join-next : (xs : List Phy) (i : ℕ) (v : Phy) → i < length (board .phys) → xs ≡ filled rejoined (board .phys) i → v ≡ effect (onto (getD lines i noLine) (getD xs i nowhere)) → set xs i v ≡ filled rejoined (board .phys) (i + 1)
+pub replaced-all : {A : Type 0} (f : A → A) (i : ℕ) (xs : List A) → i ≡ length xs → replaced f i xs ≡ map f xs
+replaced-all f i xs all =
+    let none : drop i xs ≡ [] = drop-of-length-le xs {i = i} (omega arith) in
+    let whole : take i xs ≡ xs = take-all i xs (omega arith) in
+    rw (none, append-nil, whole)
+
+-- A board whose lines are put back place by place
+module _ (lines : List Line) (board : Board) where
+  abbrev pub rejoined : ℕ → Phy
+  rejoined i = onto (getD lines i noLine) (getD (board .phys) i nowhere)
+
+  pub join-next : (xs : List Phy) (i : ℕ) (v : Phy) → i < length (board .phys) → xs ≡ filled rejoined (board .phys) i → v ≡ onto (getD lines i noLine) (getD xs i nowhere) → set xs i v ≡ filled rejoined (board .phys) (i + 1)
   join-next xs i v h so-far here =
       fill rejoined (board .phys) xs i v h so-far
-      (here ∙ ap (λ phy. effect (onto (getD lines i noLine) phy)) (next-place rejoined (board .phys) xs i nowhere h so-far))
+      (here ∙ ap (onto (getD lines i noLine)) (next-place rejoined (board .phys) xs i nowhere h so-far))
 
-  pub join-end : (after : Board) (i : ℕ) → i ≡ board .count → after .count ≡ board .count → after .phys ≡ filled rejoined (board .phys) i → after ≡ joinedBoard effect lines board
+  pub join-end : (after : Board) (i : ℕ) → i ≡ board .count → after .count ≡ board .count → after .phys ≡ filled rejoined (board .phys) i → after ≡ joinedBoard lines board
   unfolding joinedBoard
   join-end after i all same filled-all =
       λ j. record { count = same j; phys = (filled-all ∙ ap (filled rejoined (board .phys)) all) j }

@@ -90,41 +90,39 @@ noLine = record { address = 0; implemented = 0; enough = 0; follower = Hunting 0
 abbrev pub onto : Line → Phy → Phy
 onto line phy = withLine (line .follower) (line .captured) phy
 
--- a board with its lines put back, each PHY after an effect
-unfoldable pub joinedBoard : (Phy → Phy) → List Line → Board → Board
-joinedBoard effect lines board =
-    withPhys board (tabulate (board .count) (λ i. effect (onto (getD lines i noLine) (getD (board .phys) i nowhere))))
+-- a board with its lines put back
+unfoldable pub joinedBoard : List Line → Board → Board
+joinedBoard lines board =
+    withPhys board (tabulate (board .count) (λ i. onto (getD lines i noLine) (getD (board .phys) i nowhere)))
 
 -- What is heard of the station alone
 abbrev pub heardStation : Drive → Heard
 heardStation Released =
-    record { level = true; station = false; some = false; several = false; mask = 0; acts = false }
+    record { level = true; station = false; some = false; several = false; mask = 0 }
 heardStation (Driven level) =
-    record { level = level; station = true; some = true; several = false; mask = 0; acts = false }
+    record { level = level; station = true; some = true; several = false; mask = 0 }
 
--- and of one PHY more, by its address, by what it drives, and by whether it acts
-unfoldable pub hearsDrive : Bool → ℕ → Drive → Heard → Heard
-hearsDrive acts address Released heard =
+-- and of one PHY more, by its address and by what it drives
+unfoldable pub hearsDrive : ℕ → Drive → Heard → Heard
+hearsDrive address Released heard =
     record {
       level = heard .level;
       station = heard .station;
       some = heard .some;
       several = heard .several;
       mask = heard .mask;
-      acts = heard .acts || acts;
     }
-hearsDrive acts address (Driven level) heard =
+hearsDrive address (Driven level) heard =
     record {
       level = heard .level && level;
       station = heard .station;
       some = true;
       several = heard .several || heard .some;
       mask = setBit address (heard .mask);
-      acts = heard .acts || acts;
     }
 
 abbrev pub hears : Line → Heard → Heard
-hears line heard = hearsDrive (lineActs line) (line .address) (lineDrives line) heard
+hears line heard = hearsDrive (line .address) (lineDrives line) heard
 
 -- what is heard of some PHYs more, in order
 unfoldable pub heardFrom : Heard → List Line → Heard

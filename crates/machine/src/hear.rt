@@ -1,4 +1,4 @@
-// What is heard in a clock: the level, who drives, and whether a PHY acts in it.
+// What is heard in a clock: the level, and who drives.
 ghost use mathlib.Core.Path.{_≡_};
 ghost use Prim.Native.Nat.{_≤_, _<_};
 ghost use lib.ListN.{length, take};
@@ -16,8 +16,6 @@ pub(crate) struct Heard {
     pub(crate) several: bool,
     // Bit a where the PHY at address a drives.
     pub(crate) mask: u32,
-    // Whether a PHY acts in this clock.
-    pub(crate) acts: bool,
 }
 
 // What the station does in a step.
@@ -55,7 +53,6 @@ impl Heard {
                 some: false,
                 several: false,
                 mask: 0,
-                acts: false,
             },
             Drive::Driven(level) => Heard {
                 level: level,
@@ -63,7 +60,6 @@ impl Heard {
                 some: true,
                 several: false,
                 mask: 0,
-                acts: false,
             },
         }
     }
@@ -73,7 +69,6 @@ impl Heard {
         requires { ⌜ line .address < 32 ⌝ }
         ensures { λ r. ⌜ r ≡ hears line self ⌝ }
     {
-        let acts = self.acts | line.acts();
         let drive = line.drives();
         let Drive::Driven(level) = drive else {
             return Heard {
@@ -82,7 +77,6 @@ impl Heard {
                 some: self.some,
                 several: self.several,
                 mask: self.mask,
-                acts: acts,
             };
         };
         Heard {
@@ -91,7 +85,6 @@ impl Heard {
             some: true,
             several: self.several | self.some,
             mask: self.mask | (1 << line.address),
-            acts: acts,
         }
     }
 

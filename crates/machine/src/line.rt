@@ -2,9 +2,8 @@
 ghost use mathlib.Core.Path.{_≡_};
 ghost use Prim.Native.Nat.{_≤_, _<_};
 ghost use Rattle.phy.specs.Fields.{withLine};
-ghost use mathlib.Core.List.{_++_, map};
-ghost use lib.ListN.{take, drop};
-ghost use Rattle.phy.specs.Clock.{answerBit, clock};
+ghost use mathlib.Core.List.{map};
+ghost use Rattle.phy.specs.Clock.{answerBit};
 ghost use Rattle.machine.specs.Lines.{lineOf, lineAnswers, lineDrives, isOwn, lineActs, captures, lineFollows, joinedBoard};
 use board::Board;
 use frame::Transaction;
@@ -181,24 +180,10 @@ pub(crate) fn lines_of(board: Board) -> [Line; 32]
     lines
 }
 
-// The first `count` lines after a clock in which no PHY acts.
-pub(crate) fn follow_all(mut lines: [Line; 32], count: usize, level: bool) -> [Line; 32]
-    requires { ⌜ count ≤ 32 ⌝ }
-    ensures { λ r. ⌜ r ≡ map (lineFollows level) (take count lines) ++ drop count lines ⌝ }
-{
-    let mut i: usize = 0;
-    while i < count {
-        let line = lines[i];
-        lines[i] = line.follows(level);
-        i += 1;
-    }
-    lines
-}
-
 // The board with its lines put back.
 pub(crate) fn join_all(mut board: Board, lines: [Line; 32]) -> Board
     requires { ⌜ board .count ≤ 32 ⌝ }
-    ensures { λ r. ⌜ r ≡ joinedBoard (λ phy. phy) lines board ⌝ }
+    ensures { λ r. ⌜ r ≡ joinedBoard lines board ⌝ }
 {
     let count = board.count;
     let mut i: usize = 0;
@@ -206,22 +191,6 @@ pub(crate) fn join_all(mut board: Board, lines: [Line; 32]) -> Board
         let line = lines[i];
         let phy = line.onto(board.phys[i]);
         board.phys[i] = phy;
-        i += 1;
-    }
-    board
-}
-
-// The board with its lines put back, after a clock at a level.
-pub(crate) fn clock_all(mut board: Board, lines: [Line; 32], level: bool) -> Board
-    requires { ⌜ board .count ≤ 32 ⌝ }
-    ensures { λ r. ⌜ r ≡ joinedBoard (clock level) lines board ⌝ }
-{
-    let count = board.count;
-    let mut i: usize = 0;
-    while i < count {
-        let line = lines[i];
-        let phy = line.onto(board.phys[i]);
-        board.phys[i] = phy.clock(level);
         i += 1;
     }
     board

@@ -1,26 +1,39 @@
--- Clock by clock: after each one the specified PHYs are the board's with their lines put back, and the log has its records.
+-- Clock by clock, and in each line by line: the specified PHYs are the board's with their lines put back, and the log has its records.
 use Prim.Native.Nat.{ℕ, suc, _+_, _*_, _-_, _≤_, _<_}
-use mathlib.Core.Path.{_≡_, refl, sym, ap, _∙_}
-use mathlib.Core.List.{List, _++_, map}
+use mathlib.Core.Path.{_≡_, refl, sym, ap, subst, _∙_}
+use mathlib.Core.List.{List, map}
+use native.Mathlib.Omega.{arith}
 use native.Mathlib.Numerals.{add-one}
 use borrow.Rule.Slice.PartMut.{putMid}
-use native.Mathlib.Omega.{arith}
-use lib.ListN.{length, take, drop, length-map}
+use mathlib.Core.Logic.{⊎-elim}
+use lib.ListN.{length, getD, set, length-map}
 use borrow.Author.Needs.{needs}
 use Rattle.verdict.specs.File.{byteAt}
 use Rattle.verdict.proofs.Outputs.{pieced}
 use Rattle.wire.specs.Wire.{stationDrive, levelOf}
-use Rattle.phy.proofs.Every.{neither}
+use Rattle.phy.specs.declared.Phy.{Phy}
+use Rattle.phy.specs.Sound.{nowhere}
+use Rattle.phy.specs.Clock.{clock}
 use Rattle.board.specs.declared.Board.{Board}
 use Rattle.machine.specs.declared.hear.Heard.{Heard}
+use Rattle.machine.specs.declared.events.Happened.{Happened}
 use Rattle.machine.specs.Outcome.{physOf}
-use Rattle.machine.specs.Lines.{lineFollows, joinedBoard}
+use Rattle.machine.specs.Lines.{joinedBoard}
+use Rattle.machine.proofs.Places.{replaced, replace-next}
+use Rattle.machine.proofs.Turns.{length-replaced, replaced-all}
 use Rattle.machine.proofs.Lockstep.{drivesIn}
 use Rattle.machine.proofs.Accepts.{Goes, goes}
-use Rattle.machine.proofs.Stands.{piece, Stands, counted, slow, fast}
-use Rattle.machine.proofs.Begins.{Begun, begins, start-count, start-full, lines-small, log-long, level-is, quiet-is, put-is, ends}
+use Rattle.machine.proofs.Stands.{Shows, turn-acts, turn-follows, phys, piece, Stands, length-is, undue, happening}
+use Rattle.machine.proofs.Begins.{Begun, begins, start-count, start-full, lines-small, log-long, level-is, put-is, ends}
 use Rattle.machine.proofs.clocks.clock_by_clock.Statement.{statement}
 use Rattle.machine.proofs.clocks.clock_by_clock.Tie as tie
+
+abbrev Inv-loop2 : tie.InvT-loop2
+Inv-loop2 steps events log count now₀ next lines₀ c at end level i₀ now lines i =
+    (i ≤ count) × ((start : Board) (phys : List Phy) → start .count ≡ count → length phys ≡ count → Shows start now₀ lines₀ phys → Shows start now lines (replaced (clock level) i phys))
+
+abbrev μ-loop2 : tie.MeasureT-loop2
+μ-loop2 steps events log count now₀ next lines₀ c at end level i₀ now lines i = count - i
 
 abbrev Inv-loop : tie.InvT-loop
 Inv-loop steps events log₀ count now₀ next₀ lines₀ c₀ log now next lines c = Stands events steps log₀ now₀ log now next lines c
@@ -29,11 +42,11 @@ abbrev μ-loop : tie.MeasureT-loop
 μ-loop steps events log₀ count now₀ next₀ lines₀ c₀ log now next lines c = length steps - c
 
 -- the run is not refused
-known : (c : tie.Start Inv-loop μ-loop) → Goes (c .args .board) (c .args .steps .now) (c .args .events .now) (c .args .log .now)
+known : (c : tie.Start Inv-loop2 μ-loop2 Inv-loop μ-loop) → Goes (c .args .board) (c .args .steps .now) (c .args .events .now) (c .args .log .now)
 known c = goes _ _ _ _ _ (c .pre)
 
 -- the events before the first clock have happened
-begun : (c : tie.After-happen-until Inv-loop μ-loop) → Begun (c .before .before .before .before .args .board) (c .before .before .before .before .args .steps .now) (c .before .before .before .before .args .events .now) (c .before .before .before .before .args .log .now) (c .happen-until .result)
+begun : (c : tie.After-happen-until Inv-loop2 μ-loop2 Inv-loop μ-loop) → Begun (c .before .before .before .before .args .board) (c .before .before .before .before .args .steps .now) (c .before .before .before .before .args .events .now) (c .before .before .before .before .args .log .now) (c .happen-until .result)
 begun c =
     record {
       run = known (c .before .before .before .before);
@@ -41,146 +54,241 @@ begun c =
       first-is = c .happen-until .ensures;
     }
 
-module _ (c : tie.At-loop Inv-loop μ-loop) where
-  abbrev start : tie.Start Inv-loop μ-loop
+module _ (c : tie.At-loop Inv-loop2 μ-loop2 Inv-loop μ-loop) where
+  abbrev start : tie.Start Inv-loop2 μ-loop2 Inv-loop μ-loop
   start = c .before .before .before .before .before .before .before
 
-  abbrev head : Begun (start .args .board) (start .args .steps .now) (start .args .events .now) (start .args .log .now) (c .before .before .before .happen-until .result)
+  abbrev first : Happened
+  first = c .before .before .before .happen-until .result
+
+  abbrev head : Begun (start .args .board) (start .args .steps .now) (start .args .events .now) (start .args .log .now) first
   head = begun (c .before .before .before)
 
   -- the log keeps its length, and has room
   room : (length (c .loop .log) ≡ length (start .args .log .now)) × (length (start .args .steps .now) * 5 ≤ length (start .args .log .now)) × (length (start .args .steps .now) ≤ 4160)
   room = (log-long head (c .loop .inv), known start .room, known start .few)
 
--- what was heard and written in this turn
-module _ (c : tie.After-struct-known Inv-loop μ-loop) where
-  abbrev at : tie.At-loop Inv-loop μ-loop
-  at = c .before .before .before .before .before .before .before .before .before .before
+-- what was heard and written in this turn, where the loop over the lines begins
+module _ (c : tie.At-loop2 Inv-loop2 μ-loop2 Inv-loop μ-loop) where
+  abbrev at : tie.At-loop Inv-loop2 μ-loop2 Inv-loop μ-loop
+  at = c .before .before .before .before .before .before .before .before .before
 
   abbrev heard : Heard
-  heard = c .before .before .before .before .before .before .hear .result
+  heard = c .before .before .before .before .before .hear .result
 
-  step : c .before .before .before .before .before .before .before .station-drive .result ≡ stationDrive (byteAt (start at .args .steps .now) (at .loop .c))
-  step = c .before .before .before .before .before .before .before .station-drive .ensures
+  step : c .before .before .before .before .before .before .station-drive .result ≡ stationDrive (byteAt (start at .args .steps .now) (at .loop .c))
+  step = c .before .before .before .before .before .before .station-drive .ensures
 
-  level : heard .level ≡ levelOf (drivesIn (start at .args .events .now) (start at .args .steps .now) (physOf (at .before .before .before .happen-until .result .board)) (at .loop .c))
-  level = level-is (head at) (at .loop .inv) _ heard step (c .before .before .before .before .before .before .hear .ensures)
+  level-heard : heard .level ≡ levelOf (drivesIn (start at .args .events .now) (start at .args .steps .now) (physOf (first at .board)) (at .loop .c))
+  level-heard = level-is (head at) (at .loop .inv) _ heard step (c .before .before .before .before .before .hear .ensures)
 
-  written-so-far : putMid (at .loop .c * 5) (at .loop .c * 5 + 5 - at .loop .c * 5) (at .loop .log) (c .before .before .before .before .put .last .1 .0) ≡ pieced 5 (piece (start at .args .events .now) (start at .args .steps .now) (start at .args .log .now) (at .before .before .before .happen-until .result .board)) (start at .args .log .now) (suc (at .loop .c))
-  written-so-far = put-is (head at) (at .loop .inv) _ heard step (c .before .before .before .before .before .before .hear .ensures) _ (c .before .before .before .before .put .ensures)
+  record-put : putMid (at .loop .c * 5) (at .loop .c * 5 + 5 - at .loop .c * 5) (at .loop .log) (c .before .before .before .put .last .1 .0) ≡ pieced 5 (piece (start at .args .events .now) (start at .args .steps .now) (start at .args .log .now) (first at .board)) (start at .args .log .now) (suc (at .loop .c))
+  record-put = put-is (head at) (at .loop .inv) _ heard step (c .before .before .before .before .before .hear .ensures) _ (c .before .before .before .put .ensures)
 
   more : at .loop .c < length (start at .args .steps .now)
-  more = c .before .before .before .before .before .before .before .before .before .loop-test .taken
+  more = c .before .before .before .before .before .before .before .before .loop-test .taken
 
   one : at .loop .c + 1 ≡ suc (at .loop .c)
   one = add-one (at .loop .c)
 
-happen-until-requires : tie.Need-happen-until-requires Inv-loop μ-loop
+  abbrev specified : List Phy
+  specified = phys (start at .args .events .now) (start at .args .steps .now) (start at .args .log .now) (first at .board) (at .loop .c)
+
+  long : length specified ≡ start at .args .board .count
+  long = length-is _ _ _ _ (start-full (head at)) (at .loop .inv) ∙ start-count (head at)
+
+  -- what the lines passed and those to come show
+  shown : Shows (first at .board) (c .loop2 .now) (c .loop2 .lines) (replaced (clock (heard .level)) (c .loop2 .i) specified)
+  shown = c .loop2 .inv .1 (first at .board) specified (start-count (head at)) long (at .loop .inv .shows)
+
+  places : c .loop2 .now .count ≤ 32
+  places = omega (arith, shown .counted, start-count (head at), known (start at) .sound .at-most)
+
+-- all have sampled the level
+sampled : (c : tie.After-loop2 Inv-loop2 μ-loop2 Inv-loop μ-loop) → Shows (first (at (c .before)) .board) (c .before .loop2 .now) (c .before .loop2 .lines) (map (clock (heard (c .before) .level)) (specified (c .before)))
+sampled c =
+    let turn = c .before in
+    let all : turn .loop2 .i ≡ length (specified turn) = omega (arith, long turn, turn .loop2 .inv .0, c .loop2-test .left) in
+    subst (Shows (first (at turn) .board) (turn .loop2 .now) (turn .loop2 .lines)) (replaced-all (clock (heard turn .level)) (turn .loop2 .i) (specified turn) all) (shown turn)
+
+-- a line that is passed stands in one of the places
+small : (c : tie.In-loop2 Inv-loop2 μ-loop2 Inv-loop μ-loop) → c .before .loop2 .i < 32
+small c = omega (arith, c .loop2-test .taken, known (start (at (c .before))) .sound .at-most)
+
+happen-until-requires : tie.Need-happen-until-requires Inv-loop2 μ-loop2 Inv-loop μ-loop
 happen-until-requires c κs = known (c .before .before .before) .sound .at-most
 
-lines-of-requires : tie.Need-lines-of-requires Inv-loop μ-loop
+lines-of-requires : tie.Need-lines-of-requires Inv-loop2 μ-loop2 Inv-loop μ-loop
 lines-of-requires c κs = tt
 
-loop-holds : tie.Need-loop-holds Inv-loop μ-loop
+loop-holds : tie.Need-loop-holds Inv-loop2 μ-loop2 Inv-loop μ-loop
 loop-holds c =
-    let first = c .before .before in
-    rw (c .lines-of .ensures) (begins (begun first))
+    rw (c .lines-of .ensures) (begins (begun (c .before .before)))
 
-shared-slice-read-station-drive : tie.Need-shared-slice-read-station-drive Inv-loop μ-loop
+shared-slice-read-station-drive :
+    tie.Need-shared-slice-read-station-drive Inv-loop2 μ-loop2 Inv-loop μ-loop
 shared-slice-read-station-drive c = search needs
 
-station-drive-requires : tie.Need-station-drive-requires Inv-loop μ-loop
+station-drive-requires : tie.Need-station-drive-requires Inv-loop2 μ-loop2 Inv-loop μ-loop
 station-drive-requires c κs = tt
 
-hear-requires : tie.Need-hear-requires Inv-loop μ-loop
+hear-requires : tie.Need-hear-requires Inv-loop2 μ-loop2 Inv-loop μ-loop
 hear-requires c κs = (known (start (c .before .before .before)) .sound .at-most, lines-small (head (c .before .before .before)) (c .before .before .before .loop .inv))
 
-mul-at : tie.Need-mul-at Inv-loop μ-loop
+mul-at : tie.Need-mul-at Inv-loop2 μ-loop2 Inv-loop μ-loop
 mul-at c = omega (arith, room (c .before .before .before .before))
 
-add-end : tie.Need-add-end Inv-loop μ-loop
+add-end : tie.Need-add-end Inv-loop2 μ-loop2 Inv-loop μ-loop
 add-end c = omega (arith, room (c .before .before .before .before))
 
-sub-put : tie.Need-sub-put Inv-loop μ-loop
+sub-put : tie.Need-sub-put Inv-loop2 μ-loop2 Inv-loop μ-loop
 sub-put c = omega arith
 
-part-put-start : tie.Need-part-put-start Inv-loop μ-loop
+part-put-start : tie.Need-part-put-start Inv-loop2 μ-loop2 Inv-loop μ-loop
 part-put-start c = omega arith
 
-part-put-end : tie.Need-part-put-end Inv-loop μ-loop
+part-put-end : tie.Need-part-put-end Inv-loop2 μ-loop2 Inv-loop μ-loop
 part-put-end c = omega (arith, room (c .before .before .before .before))
 
-put-requires : tie.Need-put-requires Inv-loop μ-loop
+put-requires : tie.Need-put-requires Inv-loop2 μ-loop2 Inv-loop μ-loop
 put-requires c κs = omega (arith, c .put-arg .given .1)
 
-add-c : tie.Need-add-c Inv-loop μ-loop
-add-c c = omega (arith, room (c .before .before .before .before .before .before .before .before))
+loop2-holds : tie.Need-loop2-holds Inv-loop2 μ-loop2 Inv-loop μ-loop
+loop2-holds c = (omega arith, λ b phys count-is long shows. shows)
 
-is-due-requires : tie.Need-is-due-requires Inv-loop μ-loop
+mul-line : tie.Need-mul-line Inv-loop2 μ-loop2 Inv-loop μ-loop
+mul-line c = omega (arith, small c)
+
+array-copy-out-line : tie.Need-array-copy-out-line Inv-loop2 μ-loop2 Inv-loop μ-loop
+array-copy-out-line c = omega (arith, small c)
+
+acts-requires : tie.Need-acts-requires Inv-loop2 μ-loop2 Inv-loop μ-loop
+acts-requires c κs = tt
+
+mul-onto : tie.Need-mul-onto Inv-loop2 μ-loop2 Inv-loop μ-loop
+mul-onto c = omega (arith, small (c .before .before .before))
+
+element-copy-out-onto : tie.Need-element-copy-out-onto Inv-loop2 μ-loop2 Inv-loop μ-loop
+element-copy-out-onto c = omega (arith, small (c .before .before .before))
+
+onto-requires : tie.Need-onto-requires Inv-loop2 μ-loop2 Inv-loop μ-loop
+onto-requires c κs = tt
+
+clock-requires : tie.Need-clock-requires Inv-loop2 μ-loop2 Inv-loop μ-loop
+clock-requires c κs = tt
+
+mul-phy : tie.Need-mul-phy Inv-loop2 μ-loop2 Inv-loop μ-loop
+mul-phy c = omega (arith, small (c .before .before .before .before .before .before))
+
+element-set-from-phy : tie.Need-element-set-from-phy Inv-loop2 μ-loop2 Inv-loop μ-loop
+element-set-from-phy c = omega (arith, small (c .before .before .before .before .before .before))
+
+of-requires : tie.Need-of-requires Inv-loop2 μ-loop2 Inv-loop μ-loop
+of-requires c κs = tt
+
+mul-lines : tie.Need-mul-lines Inv-loop2 μ-loop2 Inv-loop μ-loop
+mul-lines c = omega (arith, small (c .before .before .before .before .before .before .before))
+
+array-set-from-lines : tie.Need-array-set-from-lines Inv-loop2 μ-loop2 Inv-loop μ-loop
+array-set-from-lines c = omega (arith, small (c .before .before .before .before .before .before .before))
+
+follows-requires : tie.Need-follows-requires Inv-loop2 μ-loop2 Inv-loop μ-loop
+follows-requires c κs = tt
+
+mul-lines-2 : tie.Need-mul-lines-2 Inv-loop2 μ-loop2 Inv-loop μ-loop
+mul-lines-2 c = omega (arith, small (c .before .before .before .before))
+
+array-set-from-lines-2 : tie.Need-array-set-from-lines-2 Inv-loop2 μ-loop2 Inv-loop μ-loop
+array-set-from-lines-2 c = omega (arith, small (c .before .before .before .before))
+
+add-i : tie.Need-add-i Inv-loop2 μ-loop2 Inv-loop μ-loop
+add-i c = omega (arith, small (c .before .before .before))
+
+loop2-less : tie.Need-loop2-less Inv-loop2 μ-loop2 Inv-loop μ-loop
+loop2-less c = search needs
+
+loop2-again : tie.Need-loop2-again Inv-loop2 μ-loop2 Inv-loop μ-loop
+loop2-again c =
+    let turn = c .before .before .before .before in
+    let i = turn .loop2 .i in
+    let level = heard turn .level in
+    let below : i < start (at turn) .args .board .count = c .before .before .before .loop2-test .taken in (
+      omega arith,
+      λ b phys count-is long shows.
+          let so-far = turn .loop2 .inv .1 b phys count-is long shows in
+          let there : i < b .count = omega arith in
+          let qs = replaced (clock level) i phys in
+          let same : length qs ≡ b .count = length-replaced (clock level) i phys ∙ long ∙ sym count-is in
+          let next : set qs i (clock level (getD qs i nowhere)) ≡ replaced (clock level) (i + 1) phys = replace-next (clock level) i phys qs nowhere _ (omega arith) refl refl in
+          ⊎-elim
+          (λ w. rw (w .5, w .6, ← next) (turn-acts so-far same i there level (w .4 .result) (w .3 .result) (w .3 .ensures ∙ ap (clock level) (w .2 .ensures)) (w .4 .ensures)))
+          (λ w. rw (w .2, w .3, ← next) (turn-follows so-far same i there level (w .1 .result) (sym (c .before .acts .ensures) ∙ w .0 .left) (w .1 .ensures)))
+          (c .if1 .came),
+    )
+
+add-c : tie.Need-add-c Inv-loop2 μ-loop2 Inv-loop μ-loop
+add-c c = omega (arith, room (at (c .before)))
+
+is-due-requires : tie.Need-is-due-requires Inv-loop2 μ-loop2 Inv-loop μ-loop
 is-due-requires c κs = tt
 
-clock-all-requires : tie.Need-clock-all-requires Inv-loop μ-loop
-clock-all-requires c κs =
-    let at = c .before .before .before .before .before .before .before .before .before .before .before in
-    let same = counted _ _ _ _ (start-full (head at)) (at .loop .inv) ∙ start-count (head at) in
-    omega (arith, known (start at) .sound .at-most)
+join-all-requires : tie.Need-join-all-requires Inv-loop2 μ-loop2 Inv-loop μ-loop
+join-all-requires c κs = places (c .before .before .before)
 
-happen-until-requires-2 : tie.Need-happen-until-requires-2 Inv-loop μ-loop
+happen-until-requires-2 : tie.Need-happen-until-requires-2 Inv-loop2 μ-loop2 Inv-loop μ-loop
 unfolding joinedBoard
 happen-until-requires-2 c κs =
-    let at = c .before .before .before .before .before .before .before .before .before .before .before .before in
-    let same = ap (λ (b : Board). b .count) (c .clock-all .ensures) ∙ counted _ _ _ _ (start-full (head at)) (at .loop .inv) ∙ start-count (head at) in
-    omega (arith, known (start at) .sound .at-most)
+    let turn = c .before .before .before .before in
+    let same = ap (λ (b : Board). b .count) (c .join-all .ensures) in
+    omega (arith, places turn)
 
-lines-of-requires-2 : tie.Need-lines-of-requires-2 Inv-loop μ-loop
+lines-of-requires-2 : tie.Need-lines-of-requires-2 Inv-loop2 μ-loop2 Inv-loop μ-loop
 lines-of-requires-2 c κs = tt
 
-loop-less : tie.Need-loop-less Inv-loop μ-loop
-loop-less c = omega arith
+loop-less : tie.Need-loop-less Inv-loop2 μ-loop2 Inv-loop μ-loop
+loop-less c = omega (arith, more (c .before .before .before .before .before .before .before))
 
-loop-again : tie.Need-loop-again Inv-loop μ-loop
+loop-again : tie.Need-loop-again Inv-loop2 μ-loop2 Inv-loop μ-loop
 loop-again c =
-    let turn = c .before .before .before .before .before in
+    let after = c .before .before .before .before .before .before in
+    let turn = after .before in
     let here = at turn in
     let happened = rw (one turn) at (c .before .before .happen-until2 .ensures) in
     rw (one turn, c .lines-of2 .ensures)
-    (slow _ _ _ _ (start-full (head here)) (here .loop .inv) (known (start here) .rising) (more turn) _ (heard turn .level) (written-so-far turn) (level turn) _ _ (c .before .before .before .clock-all .ensures) happened)
+    (happening _ _ _ _ (start-full (head here)) (here .loop .inv) (known (start here) .rising) (more turn) _ (heard turn .level) (record-put turn) (level-heard turn) _ _ (sampled after) _ _ (c .before .before .before .join-all .ensures) happened)
 
-follow-all-requires : tie.Need-follow-all-requires Inv-loop μ-loop
-follow-all-requires c κs = known (c .before .before .before .before .before .before .before .before .before .before .before .before .before .before .before .before .before .before) .sound .at-most
+loop-less-2 : tie.Need-loop-less-2 Inv-loop2 μ-loop2 Inv-loop μ-loop
+loop-less-2 c = omega (arith, more (c .before .before .before))
 
-loop-less-2 : tie.Need-loop-less-2 Inv-loop μ-loop
-loop-less-2 c = omega arith
-
-loop-again-2 : tie.Need-loop-again-2 Inv-loop μ-loop
+loop-again-2 : tie.Need-loop-again-2 Inv-loop2 μ-loop2 Inv-loop μ-loop
 loop-again-2 c =
-    let turn = c .before .before in
+    let after = c .before .before in
+    let turn = after .before in
     let here = at turn in
-    let none = neither (heard turn .acts) (turn .before .is-due .result) (c .before .if1 .left) in
-    let due = rw (one turn) at (sym (turn .before .is-due .ensures) ∙ none .1) in
-    let follows = c .follow-all .ensures ∙ ap (λ n. map (lineFollows (heard turn .level)) (take n (here .loop .lines)) ++ drop n (here .loop .lines)) (sym (start-count (head here))) in
+    let due = rw (one turn) at (sym (c .before .is-due .ensures) ∙ c .if2 .left) in
     rw (one turn)
-    (fast _ _ _ _ (start-full (head here)) (here .loop .inv) (known (start here) .rising) (more turn) _ (heard turn .level) (written-so-far turn) (level turn) _ follows (quiet-is (head here) (here .loop .inv) _ (heard turn) (step turn) (turn .before .before .before .before .before .before .hear .ensures) (none .0)) due)
+    (undue _ _ _ _ (start-full (head here)) (here .loop .inv) (known (start here) .rising) (more turn) _ (heard turn .level) (record-put turn) (level-heard turn) _ _ (sampled after) due)
 
-join-all-requires : tie.Need-join-all-requires Inv-loop μ-loop
-join-all-requires c κs =
+join-all-requires-2 : tie.Need-join-all-requires-2 Inv-loop2 μ-loop2 Inv-loop μ-loop
+join-all-requires-2 c κs =
     let here = c .before in
-    let same = counted _ _ _ _ (start-full (head here)) (here .loop .inv) ∙ start-count (head here) in
-    omega (arith, known (start here) .sound .at-most)
+    omega (arith, here .loop .inv .shows .counted, start-count (head here), known (start here) .sound .at-most)
 
-same-length : tie.Need-same-length Inv-loop μ-loop
+same-length : tie.Need-same-length Inv-loop2 μ-loop2 Inv-loop μ-loop
 same-length c = room (c .before .before) .0
 
-returns : tie.Need-returns Inv-loop μ-loop
+returns : tie.Need-returns Inv-loop2 μ-loop2 Inv-loop μ-loop
 returns c =
     let here = c .before .before in
     let all : here .loop .c ≡ length (start here .args .steps .now) = omega (arith, here .loop .inv .gone) in
-    ends (head here) (here .loop .inv) (c .join-all .result) all (c .join-all .ensures)
+    ends (head here) (here .loop .inv) (c .join-all2 .result) all (c .join-all2 .ensures)
 
 pub clock-by-clock-spec : {M : Type 1} → statement M
 clock-by-clock-spec =
     tie.close
     (tie.spec
+    Inv-loop2
+    μ-loop2
     Inv-loop
     μ-loop
     happen-until-requires
@@ -195,16 +303,34 @@ clock-by-clock-spec =
     part-put-start
     part-put-end
     put-requires
+    loop2-holds
+    mul-line
+    array-copy-out-line
+    acts-requires
+    mul-onto
+    element-copy-out-onto
+    onto-requires
+    clock-requires
+    mul-phy
+    element-set-from-phy
+    of-requires
+    mul-lines
+    array-set-from-lines
+    follows-requires
+    mul-lines-2
+    array-set-from-lines-2
+    add-i
+    loop2-less
+    loop2-again
     add-c
     is-due-requires
-    clock-all-requires
+    join-all-requires
     happen-until-requires-2
     lines-of-requires-2
     loop-less
     loop-again
-    follow-all-requires
     loop-less-2
     loop-again-2
-    join-all-requires
+    join-all-requires-2
     same-length
     returns)

@@ -11,7 +11,7 @@ use Rattle.machine.proofs.line.join_all.Statement.{statement}
 use Rattle.machine.proofs.line.join_all.Tie as tie
 
 abbrev Inv-loop : tie.InvT-loop
-Inv-loop board₀ lines count i₀ board i = (i ≤ count) × (board .count ≡ board₀ .count) × (board .phys ≡ filled (rejoined (λ phy. phy) lines board₀) (board₀ .phys) i)
+Inv-loop board₀ lines count i₀ board i = (i ≤ count) × (board .count ≡ board₀ .count) × (board .phys ≡ filled (rejoined lines board₀) (board₀ .phys) i)
 
 abbrev μ-loop : tie.MeasureT-loop
 μ-loop board₀ lines count i₀ board i = count - i
@@ -52,14 +52,14 @@ loop-again c =
     let start = c .before .before .before .before .before in
     let loop = c .before .before .before .before .loop in
     let places : length (start .args .t1 .phys) ≡ 32 = simp length-map at (start .good .0 .1 .1 .1 .0 .1 .0 .1) in
-    let turn = join-next (λ phy. phy) (start .args .t2) (start .args .t1) (loop .board .phys) (loop .i) _ (omega arith) (loop .inv .2) (c .onto .ensures) in
+    let turn = join-next (start .args .t2) (start .args .t1) (loop .board .phys) (loop .i) _ (omega arith) (loop .inv .2) (c .onto .ensures) in
     (search needs, loop .inv .1, turn)
 
 returns : tie.Need-returns Inv-loop μ-loop
 returns c =
     let start = c .before .before in
     let loop = c .before .loop in
-    join-end (λ phy. phy) (start .args .t2) (start .args .t1) (loop .board) (loop .i) (omega arith) (loop .inv .1) (loop .inv .2)
+    join-end (start .args .t2) (start .args .t1) (loop .board) (loop .i) (omega arith) (loop .inv .1) (loop .inv .2)
 
 pub join-all-spec : {M : Type 1} → statement M
 join-all-spec =

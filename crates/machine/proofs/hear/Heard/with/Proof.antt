@@ -3,14 +3,11 @@ use Prim.Native.Nat.{ℕ}
 use mathlib.Core.Path.{_≡_, sym, ap, _∙_}
 use mathlib.Core.Bool.{true, _&&_, _||_}
 use Rattle.machine.specs.declared.hear.Heard.{Heard}
-use Rattle.machine.specs.Lines.{lineActs, hearsDrive}
+use Rattle.machine.specs.Lines.{hearsDrive}
 use Rattle.machine.proofs.Lines.{mark-set}
 use borrow.Author.Needs.{needs}
 use Rattle.machine.proofs.hear.Heard.with.Statement.{statement}
 use Rattle.machine.proofs.hear.Heard.with.Tie as tie
-
-acts-requires : tie.Need-acts-requires
-acts-requires c κs = search needs
 
 drives-requires : tie.Need-drives-requires
 drives-requires c κs = search needs
@@ -25,32 +22,24 @@ returns : tie.Need-returns
 unfolding hearsDrive
 returns c =
     let released = sym (c .before .before .drives .ensures) ∙ c .enum-told .given .1 in
-    rw (released, c .before .before .before .before .acts .ensures)
+    rw released
 
-cast-t8 : tie.Need-cast-t8
-cast-t8 c = search needs
+cast-t7 : tie.Need-cast-t7
+cast-t7 c = search needs
 
-shl-t9 : tie.Need-shl-t9
-shl-t9 c = search needs
+shl-t8 : tie.Need-shl-t8
+shl-t8 c = search needs
 
 returns-2 : tie.Need-returns-2
 unfolding hearsDrive
 returns-2 c =
-    let start = c .before .before .before .before .before .before .before .before .before .before in
+    let start = c .before .before .before .before .before .before .before .before in
     let driven = sym (c .before .before .before .before .before .before .before .drives .ensures) ∙ c .before .before .before .before .before .drive .given .1 in
-    rw (driven, c .before .before .before .before .before .before .before .before .before .acts .ensures)
-    (ap (λ (m : ℕ). record { level = start .args .self .level && c .before .before .before .before .before .drive .given .0 .0; station = start .args .self .station; some = true; several = start .args .self .several || start .args .self .some; mask = m; acts = start .args .self .acts || lineActs (start .args .line) })
+    rw driven
+    (ap (λ (m : ℕ). record { level = start .args .self .level && c .before .before .before .before .before .drive .given .0 .0; station = start .args .self .station; some = true; several = start .args .self .several || start .args .self .some; mask = m })
     (mark-set (start .args .self .mask) (start .args .line .address) (start .pre)))
 
 pub with-spec : {M : Type 1} → statement M
 with-spec =
     tie.close
-    (tie.spec
-    acts-requires
-    drives-requires
-    enum-known-drive
-    enum-told
-    returns
-    cast-t8
-    shl-t9
-    returns-2)
+    (tie.spec drives-requires enum-known-drive enum-told returns cast-t7 shl-t8 returns-2)
