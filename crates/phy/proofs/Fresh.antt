@@ -9,8 +9,10 @@ use borrow.Author.Tests.{eq-eqb, eqb-true, not-true}
 use Rattle.verdict.specs.Bits.{bit}
 use Rattle.phy.specs.declared.Phy.{Phy}
 use Rattle.phy.specs.Abilities.{one, able10, able100, able1000, ableHalf, ableFull}
+use Rattle.phy.specs.Control.{speedAble}
+use Rattle.phy.specs.Clock.{fresh}
 use Rattle.phy.specs.Record.{every, word, registerCount, statusClear, extendedClear, someAbility, derivedControl, controlDerived, wordsRight}
-use Rattle.phy.specs.Sound.{standsOutside, registersStand, speedAble, followerSound, answering, fresh, phySound}
+use Rattle.phy.specs.Sound.{standsOutside, registersStand, followerSound, answering, phySound}
 use Rattle.phy.proofs.Every.{both, each-every}
 use Rattle.phy.proofs.Clauses.{Clauses, ControlClauses, clauses-sound}
 
@@ -91,10 +93,10 @@ zero-bit : (n : ℕ) → n ≡ 0 → eqb n 1 ≡ false
 zero-bit n e = rw e
 
 -- the fastest speed that is able is able
-fastest-able : (status extended : ℕ) → someAbility status extended ≡ true → speedAble (able1000 status extended) (not (able1000 status extended) && able100 status extended) status extended ≡ true
+fastest-able : (status extended : ℕ) → someAbility status extended ≡ true → speedAble status extended (able1000 status extended) (not (able1000 status extended) && able100 status extended) ≡ true
 fastest-able status extended some = go (able1000 status extended) (able100 status extended) refl refl
   where
-    go : (thousand hundred : Bool) → able1000 status extended ≡ thousand → able100 status extended ≡ hundred → speedAble (able1000 status extended) (not (able1000 status extended) && able100 status extended) status extended ≡ true
+    go : (thousand hundred : Bool) → able1000 status extended ≡ thousand → able100 status extended ≡ hundred → speedAble status extended (able1000 status extended) (not (able1000 status extended) && able100 status extended) ≡ true
     go true hundred p q = rw p p
     go false true p q = rw (p, q) q
     go false false p q = rw (p, q) (sym (or-false (able10 status extended)) ∙ (rw (q, p) at some))
