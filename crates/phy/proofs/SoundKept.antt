@@ -1,0 +1,165 @@
+-- Every method of a PHY keeps it sound: the clauses of registers and link, of the follower and of the captured word one by one.
+use Prim.Native.Nat.{ℕ, _-_, _/_, _^_, _≤_, _<_}
+use mathlib.Core.Path.{_≡_, refl, sym, ap, subst, _∙_}
+use mathlib.Core.Logic.{_⊎_, inl, inr}
+use mathlib.Core.Bool.{Bool, true, false, not, _&&_, _||_, cond, or-true}
+use mathlib.Core.List.{List}
+use native.Mathlib.Omega.{arith}
+use native.Mathlib.Nat.{div-eq-of-lt, div-lt-iff-lt-mul, one-mul}
+use native.Mathlib.Decide.{ℕ-discrete}
+use lib.Dec.{eqb, leb}
+use lib.Pow.{pow-pos}
+use borrow.Author.Tests.{eq-eqb, eqb-true, eqb-false, le-leb, lt-leb, leb-true, leb-false, not-true}
+use Rattle.wire.specs.declared.Follower.{Follower}
+use Rattle.wire.specs.declared.Follower.the-variants.{Hunting, Inside}
+use Rattle.wire.specs.declared.Header.{Header}
+use Rattle.wire.specs.Follower.{oneMore, follow, headerSeen}
+use Rattle.phy.specs.declared.Phy.{Phy}
+use Rattle.phy.specs.Fields.{defaultOf, maskOf, withBank, withLine}
+use Rattle.phy.specs.Registers.{implements, inReset, writeOrdinary, readStatus, afterRead, writeBy, afterWrite}
+use Rattle.phy.specs.Control.{writeControl}
+use Rattle.phy.specs.Events.{event}
+use Rattle.phy.specs.Clock.{enough, answers, stores, afterHeader, afterFrame, clock}
+use Rattle.phy.specs.Typed.{Typed}
+use Rattle.phy.specs.Record.{registerSetRight, unimplementedZero, masksZero, statusClear, extendedClear, someAbility, controlDerived, wordsRight, defaultsRight}
+use Rattle.phy.specs.Sound.{registersStand, othersAtDefault, followerSound, firstBits, answering, capturedSound, phySound}
+use Rattle.phy.proofs.Every.{both}
+use Rattle.phy.proofs.Implemented.{implemented-below}
+use Rattle.phy.proofs.Clauses.{Clauses, sound-clauses, clauses-sound}
+use Rattle.phy.proofs.Clocks.{OwnRead}
+use Rattle.phy.proofs.Lines.{clock-hunting, clock-inside, clock-header, clock-frame}
+use Rattle.phy.proofs.Followers.{clock-follows}
+use Rattle.phy.proofs.Frames.{Started, follow-started, CapturedOnly, clock-captured}
+use Rattle.phy.proofs.Effects.{Effect, event-effect, afterRead-effect, afterHeader-effect, afterWrite-effect, afterFrame-effect}
+use Rattle.phy.proofs.Keeping.{keeps-typed, clock-record, clock-typed}
+use Rattle.phy.proofs.Banks.{Bank, words-clauses, clauses-words, event-bank, read-bank, ordinary-bank}
+use Rattle.phy.proofs.ControlBanks.{clauses-bank, control-bank}
+
+-- a PHY whose record passes checks 5 and 6, and which is sound
+pub record SoundPhy (p : Phy) : Type 0 where
+  pub typed : Typed p
+  pub set-right : registerSetRight (p .implemented) (p .defaults) ≡ true
+  pub defaults-right : defaultsRight (p .implemented) (p .defaults) (p .masks) ≡ true
+  pub sound : phySound p ≡ true
+
+-- Registers and link
+module _ (p : Phy) (s : SoundPhy p) where
+  bank : Bank p
+  bank = clauses-bank p (sound-clauses p (s .sound))
+
+  -- what check 6 says of the masks and of the words of registers 0, 1 and 15
+  right : (masksZero (p .masks) ≡ true) × (wordsRight (defaultOf 0 p) (defaultOf 1 p) (defaultOf 15 p) ≡ true)
+  unfolding defaultsRight
+  right =
+      let words = wordsRight (defaultOf 0 p) (defaultOf 1 p) (defaultOf 15 p) in
+      both (masksZero (p .masks)) words (both (unimplementedZero (p .implemented) (p .defaults) (p .masks)) (masksZero (p .masks) && words) (s .defaults-right) .1)
+
+  -- "masks of (..) 15 zero"
+  fixed-mask : maskOf 15 p ≡ 0
+  fixed-mask =
+      let zero : ℕ → Bool = λ r. eqb (maskOf r p) 0 in
+      let after = both (zero 0) (zero 1 && (zero 2 && (zero 3 && zero 15))) (right .0) .1 in
+      let after1 = both (zero 1) (zero 2 && (zero 3 && zero 15)) after .1 in
+      let after2 = both (zero 2) (zero 3 && zero 15) after1 .1 in
+      eqb-true (maskOf 15 p) 0 (both (zero 3) (zero 15) after2 .1)
+
+  -- "default 1.5, 1.4, 1.2, 1.1 zero"
+  status-clear : statusClear (defaultOf 1 p) ≡ true
+  unfolding wordsRight
+  status-clear =
+      let derived = controlDerived (defaultOf 0 p) (defaultOf 1 p) (defaultOf 15 p) in
+      both (statusClear (defaultOf 1 p)) (extendedClear (defaultOf 15 p) && (someAbility (defaultOf 1 p) (defaultOf 15 p) && derived)) (right .1) .0
+
+  after-read : (r : ℕ) → Bank (afterRead r p)
+  unfolding afterRead
+  after-read r = go (eqb r 1)
+    where
+      go : (t : Bool) → Bank (cond t (readStatus p) p)
+      go true = read-bank p (s .typed .registers) bank status-clear
+      go false = bank
+
+  after-header : (header : Header) → Bank (afterHeader header p)
+  unfolding afterHeader
+  after-header header = go (answers header p)
+    where
+      go : (t : Bool) → Bank (cond t (afterRead (header .register) p) p)
+      go true = after-read (header .register)
+      go false = bank
+
+  written : (r word : ℕ) → r < 32 → inReset p ≡ false → Bank (writeBy r word p)
+  unfolding writeBy inReset
+  written r word below out = go (eqb r 0) (eqb r 1) refl refl
+    where
+      go : (a b : Bool) → eqb r 0 ≡ a → eqb r 1 ≡ b → Bank (cond a (writeControl word p) (cond b p (writeOrdinary r word p)))
+      go true b e0 e1 = control-bank word p (s .typed .defaults) (s .typed .registers) (right .1) bank
+      go false true e0 e1 = bank
+      go false false e0 e1 = ordinary-bank p (s .typed .registers) bank r word (eqb-false r 0 e0) (eqb-false r 1 e1) below fixed-mask out
+
+  after-write : (r word : ℕ) → Bank (afterWrite r word p)
+  unfolding afterWrite
+  after-write r word = go (implements r p && not (inReset p)) refl
+    where
+      go : (t : Bool) → (implements r p && not (inReset p)) ≡ t → Bank (cond t (writeBy r word p) p)
+      go true e = written r word (implemented-below r p (not (inReset p)) e) (not-true (inReset p) (both (implements r p) (not (inReset p)) e .1))
+      go false e = bank
+
+  after-frame : (header : Header) (word : ℕ) → Bank (afterFrame header word p)
+  unfolding afterFrame
+  after-frame header word = go (stores header p)
+    where
+      go : (t : Bool) → Bank (cond t (afterWrite (header .register) word p) p)
+      go true = after-write (header .register) word
+      go false = bank
+
+-- the clauses of registers and link, with those of the follower and of the captured word
+bank-sound : (p : Phy) → Bank p → followerSound (p .follower) ≡ true → capturedSound p ≡ true → phySound p ≡ true
+bank-sound p b follows captured =
+    clauses-sound p
+    record {
+      registers-stand = b .registers-stand;
+      status-stands = b .status-stands;
+      control = b .control;
+      reset-stands = b .reset-stands;
+      complete-negotiates = b .complete-negotiates;
+      held-link-up = b .held-link-up;
+      follower-sound = follows;
+      captured-sound = captured;
+    }
+
+-- whom a PHY answers does not go by registers and link
+answering-same : (registers : List ℕ) (link : Bool) (p : Phy) (f : Follower) → answering (withBank registers link p) f ≡ answering p f
+unfolding answering answers implements
+answering-same registers link p (Hunting ones) = refl
+answering-same registers link p (Inside seen bits) = refl
+
+-- an effect that leaves registers and link sound leaves the PHY sound
+module _ {f : Phy → Phy} (effect : Effect f) (p : Phy) (s : SoundPhy p) where
+  kept-by : Bank (f p) → SoundPhy (f p)
+  kept-by b =
+      record {
+        typed = keeps-typed effect p (s .typed);
+        set-right = ap (λ q. registerSetRight (q .implemented) (q .defaults)) (effect .bank p) ∙ s .set-right;
+        defaults-right = ap (λ q. defaultsRight (q .implemented) (q .defaults) (q .masks)) (effect .bank p) ∙ s .defaults-right;
+        sound = bank-sound (f p) b (ap (λ q. followerSound (q .follower)) (effect .bank p) ∙ now .follower-sound)
+            (ap capturedSound (effect .bank p)
+            ∙ ap (λ (t : Bool). t || eqb (p .captured) 0) (answering-same (f p .registers) (f p .link) p (p .follower))
+            ∙ now .captured-sound);
+      }
+    where
+      now : Clauses p
+      now = sound-clauses p (s .sound)
+
+pub event-sound : (code : ℕ) (p : Phy) → SoundPhy p → SoundPhy (event code p)
+event-sound code p s = kept-by (event-effect code) p s (event-bank p (s .typed .registers) (bank p s) code)
+
+pub afterRead-sound : (r : ℕ) (p : Phy) → SoundPhy p → SoundPhy (afterRead r p)
+afterRead-sound r p s = kept-by (afterRead-effect r) p s (after-read p s r)
+
+pub afterHeader-sound : (header : Header) (p : Phy) → SoundPhy p → SoundPhy (afterHeader header p)
+afterHeader-sound header p s = kept-by (afterHeader-effect header) p s (after-header p s header)
+
+pub afterWrite-sound : (r word : ℕ) (p : Phy) → SoundPhy p → SoundPhy (afterWrite r word p)
+afterWrite-sound r word p s = kept-by (afterWrite-effect r word) p s (after-write p s r word)
+
+pub afterFrame-sound : (header : Header) (word : ℕ) (p : Phy) → SoundPhy p → SoundPhy (afterFrame header word p)
+afterFrame-sound header word p s = kept-by (afterFrame-effect header word) p s (after-frame p s header word)
