@@ -163,3 +163,105 @@ afterWrite-sound r word p s = kept-by (afterWrite-effect r word) p s (after-writ
 
 pub afterFrame-sound : (header : Header) (word : ℕ) (p : Phy) → SoundPhy p → SoundPhy (afterFrame header word p)
 afterFrame-sound header word p s = kept-by (afterFrame-effect header word) p s (after-frame p s header word)
+
+-- The follower: "hunting with 0 to 32 ones, or inside a frame with 1 to 31 bits, the first 0 and any second 1"
+below-power : (bits k : ℕ) → bits / 2 ^ k ≡ 0 → bits < 2 ^ k
+below-power bits k e = subst (λ (m : ℕ). bits < m) (one-mul (2 ^ k)) (div-lt-iff-lt-mul (pow-pos k) .0 (omega (arith, e)))
+
+sound-started : (f : Follower) → followerSound f ≡ true → Started f
+unfolding followerSound
+sound-started (Hunting ones) h = leb-true ones 32 h
+sound-started (Inside seen bits) h =
+    let second = leb seen 1 || eqb (firstBits 2 seen bits) 1 in
+    let least = both (leb 1 seen) (leb seen 31 && (eqb (firstBits 1 seen bits) 0 && second)) h in
+    let most = both (leb seen 31) (eqb (firstBits 1 seen bits) 0 && second) (least .1) in
+    let starts = both (eqb (firstBits 1 seen bits) 0) second (most .1) in (
+      leb-true 1 seen (least .0),
+      leb-true seen 31 (most .0),
+      below-power bits (seen - 1) (eqb-true (firstBits 1 seen bits) 0 (starts .0)),
+      λ past. eqb-true (firstBits 2 seen bits) 1 (rw (lt-leb seen 1 past) at (starts .1)),
+    )
+
+started-sound : (f : Follower) → Started f → followerSound f ≡ true
+unfolding followerSound
+started-sound (Hunting ones) h = le-leb ones 32 h
+started-sound (Inside seen bits) h =
+    rw (le-leb 1 seen (h .0), le-leb seen 31 (h .1), eq-eqb (firstBits 1 seen bits) 0 (div-eq-of-lt (h .2))) (go (leb seen 1) refl)
+  where
+    go : (t : Bool) → leb seen 1 ≡ t → (t || eqb (firstBits 2 seen bits) 1) ≡ true
+    go true e = refl
+    go false e = eq-eqb (firstBits 2 seen bits) 1 (h .3 (leb-false seen 1 e))
+
+-- The captured word: "only in an own read of an implemented register from its 14th bit on, else 0"
+sound-captured : (p : Phy) → capturedSound p ≡ true → CapturedOnly p
+unfolding answering
+sound-captured p h = go (answering p (p .follower)) refl
+  where
+    reads : (f : Follower) → p .follower ≡ f → answering p f ≡ true → OwnRead 14 p
+    reads (Hunting ones) now e = absurd (let z : _≡_ {A = ℕ} 0 1 = cc in omega arith)
+    reads (Inside seen bits) now e =
+        let least = both (leb 14 seen) (leb seen 31 && answers (headerSeen seen bits) p) e in
+        let most = both (leb seen 31) (answers (headerSeen seen bits) p) (least .1) in
+        record { seen = seen; bits = bits; now = now; own = most .1; from = leb-true 14 seen (least .0); upto = leb-true seen 31 (most .0) }
+
+    go : (t : Bool) → answering p (p .follower) ≡ t → CapturedOnly p
+    go true e = inr (reads (p .follower) refl e)
+    go false e = inl (eqb-true (p .captured) 0 (rw e at h))
+
+captured-sound : (p : Phy) → CapturedOnly p → capturedSound p ≡ true
+unfolding answering
+captured-sound p (inl none) = ap (λ (w : ℕ). answering p (p .follower) || eqb w 0) none ∙ or-true (answering p (p .follower))
+captured-sound p (inr read) = ap (λ (t : Bool). t || eqb (p .captured) 0) (ap (answering p) (read .now) ∙ reads)
+  where
+    reads : answering p (Inside (read .seen) (read .bits)) ≡ true
+    reads = rw (le-leb 14 (read .seen) (read .from), le-leb (read .seen) 31 (read .upto), read .own)
+
+-- registers and link do not go by follower and captured word
+line-bank : (f : Follower) (w : ℕ) (p : Phy) → Bank p → Bank (withLine f w p)
+unfolding registersStand othersAtDefault
+line-bank f w p b =
+    record {
+      registers-stand = b .registers-stand;
+      status-stands = b .status-stands;
+      control = words-clauses (withLine f w p) (clauses-words p (b .control));
+      reset-stands = b .reset-stands;
+      complete-negotiates = b .complete-negotiates;
+      held-link-up = b .held-link-up;
+    }
+
+-- a clock: at the 14th bit a header's effect, at the 32nd a frame's
+module _ (level : Bool) (p : Phy) (s : SoundPhy p) where
+  clock-bank : Bank (clock level p)
+  clock-bank = go (p .follower) refl
+    where
+      at : (f g : Follower) (w : ℕ) (q : Phy) → p .follower ≡ f → clock level (withLine f (p .captured) p) ≡ withLine g w q → Bank q → Bank (clock level p)
+      at f g w q now is b = subst Bank (sym (ap (λ h. clock level (withLine h (p .captured) p)) now ∙ is)) (line-bank g w q b)
+
+      go : (f : Follower) → p .follower ≡ f → Bank (clock level p)
+      go (Hunting ones) now = at (Hunting ones) _ _ p now (clock-hunting level ones (p .captured) p) (bank p s)
+      go (Inside seen bits) now = by (ℕ-discrete seen 13) (ℕ-discrete seen 31)
+        where
+          here : (n : ℕ) → seen ≡ n → p .follower ≡ Inside n bits
+          here n e = now ∙ ap (λ (k : ℕ). Inside k bits) e
+
+          by : Dec (seen ≡ 13) → Dec (seen ≡ 31) → Bank (clock level p)
+          by (yes e) d = at (Inside 13 bits) _ _ _ (here 13 e) (clock-header level bits (p .captured) p) (after-header p s _)
+          by (no n13) (yes e) = at (Inside 31 bits) _ _ _ (here 31 e) (clock-frame level bits (p .captured) p) (after-frame p s _ _)
+          by (no n13) (no n31) = at (Inside seen bits) _ _ p now (clock-inside level seen bits (p .captured) p n13 n31) (bank p s)
+
+  pub clock-sound : SoundPhy (clock level p)
+  clock-sound =
+      record {
+        typed = clock-typed level p (s .typed);
+        set-right = ap (λ r. registerSetRight (r .1) (r .2)) (clock-record level p) ∙ s .set-right;
+        defaults-right = ap (λ r. defaultsRight (r .1) (r .2) (r .3)) (clock-record level p) ∙ s .defaults-right;
+        sound = bank-sound (clock level p) clock-bank
+            (ap followerSound (clock-follows level p) ∙ started-sound _ (follow-started (enough p) level (p .follower) started))
+            (captured-sound (clock level p) (clock-captured level p started (sound-captured p (now .captured-sound))));
+      }
+    where
+      now : Clauses p
+      now = sound-clauses p (s .sound)
+
+      started : Started (p .follower)
+      started = sound-started (p .follower) (now .follower-sound)
