@@ -6,12 +6,12 @@ use mathlib.Core.List.{List}
 use native.Mathlib.Omega.{arith}
 use native.Mathlib.Decide.{ℕ-discrete}
 use lib.Dec.{eqb, leb}
-use lib.ListN.{length, getD, set, length-set}
+use lib.ListN.{getD, set, length-set}
 use lib.Seq.{getD-set-same, getD-set-other, set-getD}
-use borrow.Author.Tests.{eq-eqb, eqb-true, eqb-false, leb-false, not-true}
-use Rattle.verdict.specs.Bits.{bit, shiftIn}
+use borrow.Author.Tests.{eqb-true, eqb-false, leb-false, not-true}
+use Rattle.verdict.specs.Bits.{bit}
 use Rattle.phy.specs.declared.Phy.{Phy}
-use Rattle.phy.specs.Abilities.{one, able10, able100, able1000, ableFull, ableHalf}
+use Rattle.phy.specs.Abilities.{one, ableFull, ableHalf}
 use Rattle.phy.specs.Words.{setBit, clearBit}
 use Rattle.phy.specs.Fields.{registerOf, defaultOf, maskOf, withBank}
 use Rattle.phy.specs.Control.{speedAble}
@@ -20,7 +20,7 @@ use Rattle.phy.specs.Events.{completes, happening, event}
 use Rattle.phy.specs.Typed.{Words}
 use Rattle.phy.specs.Record.{every, registerCount, statusClear}
 use Rattle.phy.specs.Sound.{_implies_, standsOutside, registersStand, statusStands, othersAtDefault, resetStands, completeNegotiates, heldLinkUp}
-use Rattle.phy.proofs.Every.{both, every-each, each-every, every-ext}
+use Rattle.phy.proofs.Every.{both, every-each, every-ext}
 use Rattle.phy.proofs.Words.{bit-lt, set-other, clear-other, clear-same}
 use Rattle.phy.proofs.Held.{held-others, held-link, masked-bit}
 use Rattle.phy.proofs.Clauses.{ControlClauses}
@@ -29,44 +29,10 @@ use Rattle.phy.proofs.Clauses.{ControlClauses}
 pub record Bank (p : Phy) : Type 0 where
   pub registers-stand : registersStand p ≡ true
   pub status-stands : statusStands p ≡ true
-  pub control : ControlClauses p
+  pub control : ControlClauses (registerOf 0 p) (registerOf 1 p) (registerOf 15 p)
   pub reset-stands : resetStands p ≡ true
   pub complete-negotiates : completeNegotiates p ≡ true
   pub held-link-up : heldLinkUp p ≡ true
-
--- register 0's clauses by the words of registers 0, 1 and 15
-pub record ControlWords (control status extended : ℕ) : Type 0 where
-  pub able-speed : speedAble status extended (one 6 control) (one 13 control) ≡ true
-  pub negotiation-able : (one 12 control implies one 3 status) ≡ true
-  pub restart-negotiates : (one 9 control implies one 12 control) ≡ true
-  pub duplex-fixed :
-      (one 8 control || (ableHalf status extended || not (ableFull status extended)))
-      && (not (one 8 control) || (ableFull status extended || not (ableHalf status extended)))
-      ≡ true
-  pub unidirection-able : (one 5 control implies one 7 status) ≡ true
-  pub reserved-clear : eqb (control % 2 ^ 5) 0 ≡ true
-
-pub words-clauses : (p : Phy) → ControlWords (registerOf 0 p) (registerOf 1 p) (registerOf 15 p) → ControlClauses p
-words-clauses p w =
-    record {
-      able-speed = w .able-speed;
-      negotiation-able = w .negotiation-able;
-      restart-negotiates = w .restart-negotiates;
-      duplex-fixed = w .duplex-fixed;
-      unidirection-able = w .unidirection-able;
-      reserved-clear = w .reserved-clear;
-    }
-
-pub clauses-words : (p : Phy) → ControlClauses p → ControlWords (registerOf 0 p) (registerOf 1 p) (registerOf 15 p)
-clauses-words p w =
-    record {
-      able-speed = w .able-speed;
-      negotiation-able = w .negotiation-able;
-      restart-negotiates = w .restart-negotiates;
-      duplex-fixed = w .duplex-fixed;
-      unidirection-able = w .unidirection-able;
-      reserved-clear = w .reserved-clear;
-    }
 
 -- "all of register 1 but bits 5, 4, 2, 1"
 abbrev pub heldBits : ℕ
@@ -94,7 +60,7 @@ module _ (new old extended′ extended : ℕ) (held : SameBut new old) (same : (
   speed-same true false = rw (same 15 (omega arith), same 14 (omega arith), same 13 (omega arith), same 12 (omega arith))
   speed-same true true = refl
 
-  able-same : (control : ℕ) → ControlWords control old extended → ControlWords control new extended′
+  able-same : (control : ℕ) → ControlClauses control old extended → ControlClauses control new extended′
   able-same control w =
       record {
         able-speed = speed-same (one 6 control) (one 13 control) ∙ w .able-speed;
@@ -106,9 +72,9 @@ module _ (new old extended′ extended : ℕ) (held : SameBut new old) (same : (
       }
 
 -- one test of every bit, where the masked bits need none
-pub stands-same : (mask new old default : ℕ) → ((i : ℕ) → i < 16 → one i mask ≡ false → bit i new ≡ bit i old) → standsOutside mask new default ≡ standsOutside mask old default
+pub stands-alike : (mask new old default : ℕ) → ((i : ℕ) → i < 16 → one i mask ≡ false → bit i new ≡ bit i old) → standsOutside mask new default ≡ standsOutside mask old default
 unfolding standsOutside
-stands-same mask new old default same = every-ext 16 _ _ (λ i below. go i below (one i mask) refl)
+stands-alike mask new old default same = every-ext 16 _ _ (λ i below. go i below (one i mask) refl)
   where
     go : (i : ℕ) → i < 16 → (t : Bool) → one i mask ≡ t → (t || eqb (bit i new) (bit i default)) ≡ (t || eqb (bit i old) (bit i default))
     go i below true e = refl
@@ -146,7 +112,7 @@ pub changed : (p : Phy) → Bank p → (registers : List ℕ) (link : Bool) (con
     → ((r : ℕ) → 1 < r → standsOutside (maskOf r p) (getD registers r 0) (defaultOf r p) ≡ standsOutside (maskOf r p) (registerOf r p) (defaultOf r p))
     → ((i : ℕ) → i < 16 → bit i (getD registers 15 0) ≡ bit i (registerOf 15 p))
     → SameBut status (registerOf 1 p)
-    → ControlWords control (registerOf 1 p) (registerOf 15 p)
+    → ControlClauses control (registerOf 1 p) (registerOf 15 p)
     → resetStands (withBank registers link p) ≡ true
     → (one 5 status implies (one 12 control && not (one 9 control))) ≡ true
     → (one 2 status implies link) ≡ true
@@ -155,8 +121,8 @@ unfolding registersStand
 changed p old registers link control status zeroth first above able held words reset complete up =
     record {
       registers-stand = every-ext registerCount _ _ (λ r l. go r (leb r 1) refl) ∙ old .registers-stand;
-      status-stands = rw first (stands-same heldBits status (registerOf 1 p) (defaultOf 1 p) (λ i l off. held i off) ∙ old .status-stands);
-      control = words-clauses (withBank registers link p) (rw (zeroth, first) (able-same status (registerOf 1 p) (getD registers 15 0) (registerOf 15 p) held able control words));
+      status-stands = rw first (stands-alike heldBits status (registerOf 1 p) (defaultOf 1 p) (λ i l off. held i off) ∙ old .status-stands);
+      control = (rw (zeroth, first) (able-same status (registerOf 1 p) (getD registers 15 0) (registerOf 15 p) held able control words));
       reset-stands = reset;
       complete-negotiates = rw (zeroth, first) complete;
       held-link-up = rw first up;
@@ -176,11 +142,8 @@ module _ (p : Phy) (words : Words (p .registers)) (old : Bank p) where
   abbrev extended : ℕ
   extended = registerOf 15 p
 
-  long : (registers : List ℕ) (r : ℕ) → length registers ≡ 32 → r < 32 → r < length registers
-  long registers r e h = omega arith
-
   -- registers 0 and 1 stored, outside reset
-  pub both-stored : (new held : ℕ) (link : Bool) → one 15 new ≡ false → SameBut held status → ControlWords new status extended
+  pub both-stored : (new held : ℕ) (link : Bool) → one 15 new ≡ false → SameBut held status → ControlClauses new status extended
       → (one 5 held implies (one 12 new && not (one 9 new))) ≡ true → (one 2 held implies link) ≡ true
       → Bank (withBank (set (set (p .registers) 0 new) 1 held) link p)
   both-stored new held link out same right complete up =
@@ -202,9 +165,9 @@ module _ (p : Phy) (words : Words (p .registers)) (old : Bank p) where
       → Bank (withBank (set (p .registers) 1 held) link p)
   status-stored held link out same complete up =
       subst (λ (l : List ℕ). Bank (withBank (set l 1 held) link p)) (set-getD (p .registers) 0 0)
-      (both-stored control held link out same (clauses-words p (old .control)) complete up)
+      (both-stored control held link out same (old .control) complete up)
 
-  pub control-stored : (new : ℕ) → one 15 new ≡ false → ControlWords new status extended
+  pub control-stored : (new : ℕ) → one 15 new ≡ false → ControlClauses new status extended
       → (one 5 status implies (one 12 new && not (one 9 new))) ≡ true → Bank (withBank (set (p .registers) 0 new) (p .link) p)
   control-stored new out right complete =
       subst (λ (l : List ℕ). Bank (withBank l (p .link) p)) same
@@ -218,9 +181,9 @@ module _ (p : Phy) (words : Words (p .registers)) (old : Bank p) where
   -- a bit of register 0 cleared that no ability and no duplex goes by
   cleared : (i : ℕ) → (6 ≡ i → ⊥) → (13 ≡ i → ⊥) → (12 ≡ i → ⊥) → (8 ≡ i → ⊥) → (5 ≡ i → ⊥)
       → (one 9 (clearBit i control) implies one 12 control) ≡ true → clearBit i control % 2 ^ 5 ≡ control % 2 ^ 5
-      → ControlWords (clearBit i control) status extended
+      → ControlClauses (clearBit i control) status extended
   cleared i n6 n13 n12 n8 n5 restart low =
-      let now = clauses-words p (old .control) in
+      let now = old .control in
       record {
         able-speed = rw (clear-other i 6 control n6, clear-other i 13 control n13) (now .able-speed);
         negotiation-able = rw (clear-other i 12 control n12) (now .negotiation-able);
@@ -281,7 +244,7 @@ module _ (p : Phy) (words : Words (p .registers)) (old : Bank p) where
   link-up : one 15 control ≡ false → Bank (withBank (p .registers) true p)
   link-up out =
       changed p old (p .registers) true control status refl refl (λ r l. refl) (λ i l. refl) (λ i off. refl)
-      (clauses-words p (old .control)) (rw out) (old .complete-negotiates) (or-true (not (one 2 status)))
+      (old .control) (rw out) (old .complete-negotiates) (or-true (not (one 2 status)))
 
   happened : (code : ℕ) → one 15 control ≡ false → Bank (happening code p)
   unfolding happening
@@ -338,7 +301,7 @@ module _ (p : Phy) (words : Words (p .registers)) (old : Bank p) where
   ordinary-bank r word n0 n1 below fixed out =
       changed p old after (p .link) control status zeroth (getD-set-other (p .registers) r 1 new 0 (λ e. n1 (sym e)))
       (λ k l. stands k (ℕ-discrete k r)) (λ i l. able i l (ℕ-discrete 15 r)) (λ i off. refl)
-      (clauses-words p (old .control)) (rw (zeroth, out)) (old .complete-negotiates) (old .held-link-up)
+      (old .control) (rw (zeroth, out)) (old .complete-negotiates) (old .held-link-up)
     where
       new : ℕ
       new = masked (maskOf r p) (registerOf r p) word
@@ -356,7 +319,7 @@ module _ (p : Phy) (words : Words (p .registers)) (old : Bank p) where
       unmasked i l off = masked-bit (maskOf r p) (registerOf r p) word i l ∙ ap (λ (t : Bool). cond t (bit i word) (bit i (registerOf r p))) off
 
       stands : (k : ℕ) → Dec (k ≡ r) → standsOutside (maskOf k p) (getD after k 0) (defaultOf k p) ≡ standsOutside (maskOf k p) (registerOf k p) (defaultOf k p)
-      stands k (yes e) = rw (e, here) (stands-same (maskOf r p) new (registerOf r p) (defaultOf r p) unmasked)
+      stands k (yes e) = rw (e, here) (stands-alike (maskOf r p) new (registerOf r p) (defaultOf r p) unmasked)
       stands k (no n) = ap (λ (w : ℕ). standsOutside (maskOf k p) w (defaultOf k p)) (getD-set-other (p .registers) r k new 0 n)
 
       able : (i : ℕ) → i < 16 → Dec (15 ≡ r) → bit i (getD after 15 0) ≡ bit i extended

@@ -1,6 +1,6 @@
 -- A write of register 0 leaves registers and link sound: each of its bits is what its clause asks, and a reset goes back to defaults that are sound.
 use Prim.Native.Nat.{ℕ, zero, suc, _-_, _%_, _^_, _<_}
-use mathlib.Core.Path.{_≡_, refl, sym, ap, _∙_}
+use mathlib.Core.Path.{_≡_, refl, ap}
 use mathlib.Core.Bool.{Bool, true, false, not, _&&_, _||_, cond, or-true}
 use mathlib.Core.List.{List}
 use native.Mathlib.Omega.{arith}
@@ -17,13 +17,13 @@ use Rattle.phy.specs.Control.{reset, speedAble, speedFrom, newBit12, new
 use Rattle.phy.specs.Clock.{fresh}
 use Rattle.phy.specs.Typed.{Words}
 use Rattle.phy.specs.Record.{registerCount, wordsRight}
-use Rattle.phy.specs.Sound.{_implies_, standsOutside, registersStand, othersAtDefault, resetStands}
+use Rattle.phy.specs.Sound.{_implies_, standsOutside, registersStand, othersAtDefault}
 use Rattle.phy.proofs.Every.{each-every}
-use Rattle.phy.proofs.Words.{bit-lt, set-other, set-same, clear-other, clear-same}
+use Rattle.phy.proofs.Words.{set-other, set-same, clear-other, clear-same}
 use Rattle.phy.proofs.NewBits.{newBit12-lt, newControl-bit}
-use Rattle.phy.proofs.Clauses.{Clauses, sound-clauses}
+use Rattle.phy.proofs.Clauses.{ControlClauses, Clauses, sound-clauses}
 use Rattle.phy.proofs.Fresh.{fresh-sound}
-use Rattle.phy.proofs.Banks.{Bank, ControlWords, words-clauses, clauses-words, SameBut, heldBits, outside, stands-same, changed, both-stored}
+use Rattle.phy.proofs.Banks.{Bank, heldBits, outside, changed, both-stored}
 
 -- the clauses of a sound PHY that speak of registers and link
 pub clauses-bank : (p : Phy) → Clauses p → Bank p
@@ -67,7 +67,7 @@ module _ (status extended old word : ℕ) where
   unfolding newControl shiftIn
   new-low = omega arith
 
-  new-words : ControlWords old status extended → ControlWords new status extended
+  new-words : ControlClauses old status extended → ControlClauses new status extended
   unfolding speedFrom newBit12 newBit9 newBit8 newBit5
   new-words before =
       record {
@@ -134,9 +134,9 @@ module _ (p : Phy) (words : Words (p .defaults)) (right : wordsRight (defaultOf 
   same : (i : ℕ) → (i ≡ 15 → ⊥) → bit i control ≡ bit i (defaultOf 0 p)
   same i n15 = set-other 15 i (defaultOf 0 p) n15
 
-  reset-words : ControlWords control (defaultOf 1 p) (defaultOf 15 p)
+  reset-words : ControlClauses control (defaultOf 1 p) (defaultOf 15 p)
   reset-words =
-      let now = clauses-words loaded (begins .control) in
+      let now = begins .control in
       record {
         able-speed = rw (same 6 (omega arith), same 13 (omega arith)) (now .able-speed);
         negotiation-able = rw (same 12 (omega arith)) (now .negotiation-able);
@@ -177,7 +177,7 @@ module _ (p : Phy) (words : Words (p .defaults)) (right : wordsRight (defaultOf 
       record {
         registers-stand = at-reset .registers-stand;
         status-stands = at-reset .status-stands;
-        control = words-clauses (withBank registers false p) (clauses-words (withBank registers false loaded) (at-reset .control));
+        control = at-reset .control;
         reset-stands = at-reset .reset-stands;
         complete-negotiates = at-reset .complete-negotiates;
         held-link-up = at-reset .held-link-up;
@@ -204,6 +204,6 @@ control-bank word p defaults words right old = go (one 15 word)
         both-stored p words old new (newStatus status word) (p .link)
         (rw (newControl-bit status extended (registerOf 0 p) word 15 (omega arith)))
         (λ i off. new-held status extended (registerOf 0 p) word i (outside heldBits 5 i refl off))
-        (new-words status extended (registerOf 0 p) word (clauses-words p (old .control)))
+        (new-words status extended (registerOf 0 p) word (old .control))
         (new-complete status extended (registerOf 0 p) word (old .complete-negotiates))
         (rw (new-held status extended (registerOf 0 p) word 2 (omega arith)) (old .held-link-up))

@@ -1,5 +1,5 @@
 -- A fresh PHY with a good record is sound: every register stands at its default, and the derived default of register 0 has an able speed.
-use Prim.Native.Nat.{ℕ, zero, _+_, _*_, _/_, _%_, _^_, _<_}
+use Prim.Native.Nat.{ℕ, _+_, _*_, _/_, _%_, _^_, _<_}
 use mathlib.Core.Bool.{Bool, true, false, not, _&&_, _||_, cond, or-true, or-false, not-or-self}
 use mathlib.Core.List.{List}
 use mathlib.Core.Path.{_≡_, refl, ap, sym, _∙_}
@@ -11,7 +11,7 @@ use Rattle.phy.specs.declared.Phy.{Phy}
 use Rattle.phy.specs.Abilities.{one, able10, able100, able1000, ableHalf, ableFull}
 use Rattle.phy.specs.Control.{speedAble}
 use Rattle.phy.specs.Clock.{fresh}
-use Rattle.phy.specs.Record.{every, word, registerCount, statusClear, extendedClear, someAbility, derivedControl, controlDerived, wordsRight}
+use Rattle.phy.specs.Record.{word, registerCount, statusClear, extendedClear, someAbility, derivedControl, controlDerived, wordsRight}
 use Rattle.phy.specs.Sound.{standsOutside, registersStand, followerSound, answering, phySound}
 use Rattle.phy.proofs.Every.{both, each-every}
 use Rattle.phy.proofs.Clauses.{Clauses, ControlClauses, clauses-sound}
@@ -119,7 +119,7 @@ module _ (address implemented : ℕ) (defaults masks : List ℕ) where
   abbrev new : Phy
   new = fresh address implemented defaults masks
 
-  fresh-control : ControlBits control status extended → someAbility status extended ≡ true → ControlClauses new
+  fresh-control : ControlBits control status extended → someAbility status extended ≡ true → ControlClauses control status extended
   fresh-control at some =
       record {
         able-speed = rw (at .bit-6, at .bit-13) (fastest-able status extended some);

@@ -1,7 +1,7 @@
 -- Every method of a PHY keeps it sound: the clauses of registers and link, of the follower and of the captured word one by one.
-use Prim.Native.Nat.{ℕ, _-_, _/_, _^_, _≤_, _<_}
+use Prim.Native.Nat.{ℕ, _-_, _/_, _^_, _<_}
 use mathlib.Core.Path.{_≡_, refl, sym, ap, subst, _∙_}
-use mathlib.Core.Logic.{_⊎_, inl, inr}
+use mathlib.Core.Logic.{inl, inr}
 use mathlib.Core.Bool.{Bool, true, false, not, _&&_, _||_, cond, or-true}
 use mathlib.Core.List.{List}
 use native.Mathlib.Omega.{arith}
@@ -13,7 +13,7 @@ use borrow.Author.Tests.{eq-eqb, eqb-true, eqb-false, le-leb, lt-leb, leb-true, 
 use Rattle.wire.specs.declared.Follower.{Follower}
 use Rattle.wire.specs.declared.Follower.the-variants.{Hunting, Inside}
 use Rattle.wire.specs.declared.Header.{Header}
-use Rattle.wire.specs.Follower.{oneMore, follow, headerSeen}
+use Rattle.wire.specs.Follower.{headerSeen}
 use Rattle.phy.specs.declared.Phy.{Phy}
 use Rattle.phy.specs.Fields.{defaultOf, maskOf, withBank, withLine}
 use Rattle.phy.specs.Registers.{implements, inReset, writeOrdinary, readStatus, afterRead, writeBy, afterWrite}
@@ -32,7 +32,7 @@ use Rattle.phy.proofs.Followers.{clock-follows}
 use Rattle.phy.proofs.Frames.{Started, follow-started, CapturedOnly, clock-captured}
 use Rattle.phy.proofs.Effects.{Effect, event-effect, afterRead-effect, afterHeader-effect, afterWrite-effect, afterFrame-effect}
 use Rattle.phy.proofs.Keeping.{keeps-typed, clock-record, clock-typed}
-use Rattle.phy.proofs.Banks.{Bank, words-clauses, clauses-words, event-bank, read-bank, ordinary-bank}
+use Rattle.phy.proofs.Banks.{Bank, event-bank, read-bank, ordinary-bank}
 use Rattle.phy.proofs.ControlBanks.{clauses-bank, control-bank}
 
 -- a PHY whose record passes checks 5 and 6, and which is sound
@@ -223,7 +223,7 @@ line-bank f w p b =
     record {
       registers-stand = b .registers-stand;
       status-stands = b .status-stands;
-      control = words-clauses (withLine f w p) (clauses-words p (b .control));
+      control = b .control;
       reset-stands = b .reset-stands;
       complete-negotiates = b .complete-negotiates;
       held-link-up = b .held-link-up;

@@ -1,6 +1,6 @@
 -- Document 01, "A sound board", as far as it speaks of one PHY: each clause in the document's order.
-use Prim.Native.Nat.{ℕ, zero, _+_, _-_, _/_, _%_, _^_}
-use mathlib.Core.Bool.{Bool, true, false, not, _&&_, _||_}
+use Prim.Native.Nat.{ℕ, _+_, _-_, _/_, _%_, _^_}
+use mathlib.Core.Bool.{Bool, false, not, _&&_, _||_}
 use mathlib.Core.List.{List, []}
 use lib.ListN.{replicate}
 use lib.Dec.{leb, eqb}
@@ -44,31 +44,40 @@ registersStand p =
 abbrev pub statusStands : Phy → Bool
 statusStands p = standsOutside (2 ^ 5 + 2 ^ 4 + 2 ^ 2 + 2 ^ 1) (statusOf p) (defaultOf 1 p)
 
--- "register 0 has an able speed"
-abbrev pub ableSpeed : Phy → Bool
-ableSpeed p = speedAble (statusOf p) (extendedOf p) (one 6 (controlOf p)) (one 13 (controlOf p))
+-- Register 0, by its word and those of registers 1 and 15
+module _ (control status extended : ℕ) where
+  -- "register 0 has an able speed"
+  abbrev pub ableSpeed : Bool
+  ableSpeed = speedAble status extended (one 6 control) (one 13 control)
 
--- "12 zero if 1.3 is zero"
-abbrev pub negotiationAble : Phy → Bool
-negotiationAble p = one 12 (controlOf p) implies one 3 (statusOf p)
+  -- "12 zero if 1.3 is zero"
+  abbrev pub negotiationAble : Bool
+  negotiationAble = one 12 control implies one 3 status
 
--- "9 zero if 12 is zero"
-abbrev pub restartNegotiates : Phy → Bool
-restartNegotiates p = one 9 (controlOf p) implies one 12 (controlOf p)
+  -- "9 zero if 12 is zero"
+  abbrev pub restartNegotiates : Bool
+  restartNegotiates = one 9 control implies one 12 control
 
--- "8 as fixed where one duplex is able"
-abbrev pub duplexFixed : Phy → Bool
-duplexFixed p =
-    (one 8 (controlOf p) || (ableHalf (statusOf p) (extendedOf p) || not (ableFull (statusOf p) (extendedOf p))))
-    && (not (one 8 (controlOf p)) || (ableFull (statusOf p) (extendedOf p) || not (ableHalf (statusOf p) (extendedOf p))))
+  -- "8 as fixed where one duplex is able"
+  abbrev pub duplexFixed : Bool
+  duplexFixed =
+      (one 8 control || (ableHalf status extended || not (ableFull status extended)))
+      && (not (one 8 control) || (ableFull status extended || not (ableHalf status extended)))
 
--- "5 zero if 1.7 is zero"
-abbrev pub unidirectionAble : Phy → Bool
-unidirectionAble p = one 5 (controlOf p) implies one 7 (statusOf p)
+  -- "5 zero if 1.7 is zero"
+  abbrev pub unidirectionAble : Bool
+  unidirectionAble = one 5 control implies one 7 status
 
--- "4:0 zero"
-abbrev pub reservedClear : Phy → Bool
-reservedClear p = eqb (controlOf p % 2 ^ 5) 0
+  -- "4:0 zero"
+  abbrev pub reservedClear : Bool
+  reservedClear = eqb (control % 2 ^ 5) 0
+
+  abbrev pub controlRight : Bool
+  controlRight =
+      ableSpeed && (negotiationAble && (restartNegotiates && (duplexFixed && (unidirectionAble && reservedClear))))
+
+unfoldable pub controlSound : Phy → Bool
+controlSound p = controlRight (controlOf p) (statusOf p) (extendedOf p)
 
 -- "in reset all else stands at default with the link down"
 unfoldable pub othersAtDefault : Phy → Bool
@@ -107,12 +116,6 @@ answering p (Inside seen bits) = leb headerBits seen && (leb seen (frameBits - 1
 -- "a captured word, of any value, only in an own read (..), else 0"
 abbrev pub capturedSound : Phy → Bool
 capturedSound p = answering p (p .follower) || eqb (p .captured) 0
-
--- register 0's clauses
-unfoldable pub controlSound : Phy → Bool
-controlSound p =
-    ableSpeed p
-    && (negotiationAble p && (restartNegotiates p && (duplexFixed p && (unidirectionAble p && reservedClear p))))
 
 -- all that "A sound board" asks of one PHY beside its record
 unfoldable pub phySound : Phy → Bool
