@@ -1,5 +1,5 @@
 -- Registers and link of a sound PHY stay sound: each method changes register 0, the held bits of register 1, or masked bits above.
-use Prim.Native.Nat.{ℕ, _+_, _-_, _*_, _%_, _^_, _<_}
+use Prim.Native.Nat.{ℕ, _-_, _*_, _%_, _^_, _<_}
 use mathlib.Core.Path.{_≡_, refl, sym, ap, subst, _∙_}
 use mathlib.Core.Bool.{Bool, true, false, not, _&&_, _||_, cond, or-true, true≢false}
 use mathlib.Core.List.{List}
@@ -19,26 +19,13 @@ use Rattle.phy.specs.Registers.{inReset, masked, writeOrdinary, heldAfte
 use Rattle.phy.specs.Events.{completes, happening, event}
 use Rattle.phy.specs.Typed.{Words}
 use Rattle.phy.specs.Record.{every, registerCount, statusClear}
-use Rattle.phy.specs.Sound.{_implies_, standsOutside, registersStand, statusStands, othersAtDefault, resetStands, completeNegotiates, heldLinkUp}
+use Rattle.phy.specs.Sound.{_implies_, heldBits, standsOutside, registersStand, othersAtDefault, resetStands}
 use Rattle.phy.proofs.Every.{both, every-each, every-ext}
 use Rattle.phy.proofs.Words.{bit-lt, set-other, clear-other, clear-same}
 use Rattle.phy.proofs.Held.{held-others, held-link, masked-bit}
-use Rattle.phy.proofs.Clauses.{ControlClauses}
+use Rattle.phy.proofs.Clauses.{ControlClauses, Bank}
 
--- the clauses of a sound PHY that speak of registers and link
-pub record Bank (p : Phy) : Type 0 where
-  pub registers-stand : registersStand p ≡ true
-  pub status-stands : statusStands p ≡ true
-  pub control : ControlClauses (registerOf 0 p) (registerOf 1 p) (registerOf 15 p)
-  pub reset-stands : resetStands p ≡ true
-  pub complete-negotiates : completeNegotiates p ≡ true
-  pub held-link-up : heldLinkUp p ≡ true
-
--- "all of register 1 but bits 5, 4, 2, 1"
-abbrev pub heldBits : ℕ
-heldBits = 2 ^ 5 + 2 ^ 4 + 2 ^ 2 + 2 ^ 1
-
--- a word of register 1 that differs from another in those bits alone
+-- a word of register 1 that differs from another in its held bits alone
 abbrev pub SameBut : ℕ → ℕ → Type 0
 SameBut new old = (i : ℕ) → one i heldBits ≡ false → bit i new ≡ bit i old
 

@@ -15,13 +15,17 @@ pub record ControlClauses (control status extended : ℕ) : Type 0 where
   pub unidirection-able : unidirectionAble control status extended ≡ true
   pub reserved-clear : reservedClear control status extended ≡ true
 
-pub record Clauses (p : Phy) : Type 0 where
+-- the clauses that speak of registers and link
+pub record Bank (p : Phy) : Type 0 where
   pub registers-stand : registersStand p ≡ true
   pub status-stands : statusStands p ≡ true
   pub control : ControlClauses (controlOf p) (statusOf p) (extendedOf p)
   pub reset-stands : resetStands p ≡ true
   pub complete-negotiates : completeNegotiates p ≡ true
   pub held-link-up : heldLinkUp p ≡ true
+
+pub record Clauses (p : Phy) : Type 0 where
+  pub bank : Bank p
   pub follower-sound : followerSound (p .follower) ≡ true
   pub captured-sound : capturedSound p ≡ true
 
@@ -63,12 +67,14 @@ module _ (p : Phy) where
       let link = both (heldLinkUp p) (followerSound (p .follower) && capturedSound p) (all .5) in
       let ends = both (followerSound (p .follower)) (capturedSound p) (link .1) in
       record {
-        registers-stand = all .0;
-        status-stands = all .1;
-        control = control-clauses (all .2);
-        reset-stands = all .3;
-        complete-negotiates = all .4;
-        held-link-up = link .0;
+        bank = record {
+          registers-stand = all .0;
+          status-stands = all .1;
+          control = control-clauses (all .2);
+          reset-stands = all .3;
+          complete-negotiates = all .4;
+          held-link-up = link .0;
+        };
         follower-sound = ends .0;
         captured-sound = ends .1;
       }
@@ -77,12 +83,12 @@ module _ (p : Phy) where
   unfolding phySound
   clauses-sound h =
       rw (
-        h .registers-stand,
-        h .status-stands,
-        clauses-control (h .control),
-        h .reset-stands,
-        h .complete-negotiates,
-        h .held-link-up,
+        h .bank .registers-stand,
+        h .bank .status-stands,
+        clauses-control (h .bank .control),
+        h .bank .reset-stands,
+        h .bank .complete-negotiates,
+        h .bank .held-link-up,
         h .follower-sound,
         h .captured-sound,
       )

@@ -17,25 +17,13 @@ use Rattle.phy.specs.Control.{reset, speedAble, speedFrom, newBit12, new
 use Rattle.phy.specs.Clock.{fresh}
 use Rattle.phy.specs.Typed.{Words}
 use Rattle.phy.specs.Record.{registerCount, wordsRight}
-use Rattle.phy.specs.Sound.{_implies_, standsOutside, registersStand, othersAtDefault}
+use Rattle.phy.specs.Sound.{_implies_, heldBits, standsOutside, registersStand, othersAtDefault}
 use Rattle.phy.proofs.Every.{each-every}
 use Rattle.phy.proofs.Words.{set-other, set-same, clear-other, clear-same}
 use Rattle.phy.proofs.NewBits.{newBit12-lt, newControl-bit}
-use Rattle.phy.proofs.Clauses.{ControlClauses, Clauses, sound-clauses}
+use Rattle.phy.proofs.Clauses.{ControlClauses, Bank, sound-clauses}
 use Rattle.phy.proofs.Fresh.{fresh-sound}
-use Rattle.phy.proofs.Banks.{Bank, heldBits, outside, changed, both-stored}
-
--- the clauses of a sound PHY that speak of registers and link
-pub clauses-bank : (p : Phy) → Clauses p → Bank p
-clauses-bank p all =
-    record {
-      registers-stand = all .registers-stand;
-      status-stands = all .status-stands;
-      control = all .control;
-      reset-stands = all .reset-stands;
-      complete-negotiates = all .complete-negotiates;
-      held-link-up = all .held-link-up;
-    }
+use Rattle.phy.proofs.Banks.{outside, changed, both-stored}
 
 -- a bit that is asked to be one only where another test holds: "zero if .. is zero, else as written"
 asked : (t : Bool) (written : ℕ) → (eqb (cond t written 0) 1 implies t) ≡ true
@@ -117,7 +105,7 @@ module _ (p : Phy) (words : Words (p .defaults)) (right : wordsRight (defaultOf 
   loaded = fresh (p .address) (p .implemented) (p .defaults) (p .masks)
 
   begins : Bank loaded
-  begins = clauses-bank loaded (sound-clauses loaded (fresh-sound (p .address) (p .implemented) (p .defaults) (p .masks) right))
+  begins = sound-clauses loaded (fresh-sound (p .address) (p .implemented) (p .defaults) (p .masks) right) .bank
 
   abbrev control : ℕ
   control = setBit 15 (defaultOf 0 p)

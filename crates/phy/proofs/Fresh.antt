@@ -134,12 +134,14 @@ module _ (address implemented : ℕ) (defaults masks : List ℕ) where
   unfolding registersStand followerSound answering
   fresh-clauses at some five two =
       record {
-        registers-stand = each-every _ registerCount (λ r l. rw (stands-same (word masks r) (word defaults r)) (or-true (leb r 1)));
-        status-stands = stands-same _ status;
-        control = fresh-control at some;
-        reset-stands = rw (at .bit-15);
-        complete-negotiates = rw five;
-        held-link-up = rw two;
+        bank = record {
+          registers-stand = each-every _ registerCount (λ r l. rw (stands-same (word masks r) (word defaults r)) (or-true (leb r 1)));
+          status-stands = stands-same _ status;
+          control = fresh-control at some;
+          reset-stands = rw (at .bit-15);
+          complete-negotiates = rw five;
+          held-link-up = rw two;
+        };
         follower-sound = refl;
         captured-sound = refl;
       }

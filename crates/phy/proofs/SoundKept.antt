@@ -25,15 +25,15 @@ use Rattle.phy.specs.Record.{registerSetRight, unimplementedZero, masksZ
 use Rattle.phy.specs.Sound.{registersStand, othersAtDefault, followerSound, firstBits, answering, capturedSound, phySound}
 use Rattle.phy.proofs.Every.{both}
 use Rattle.phy.proofs.Implemented.{implemented-below}
-use Rattle.phy.proofs.Clauses.{Clauses, sound-clauses, clauses-sound}
+use Rattle.phy.proofs.Clauses.{Bank, Clauses, sound-clauses, clauses-sound}
 use Rattle.phy.proofs.Clocks.{OwnRead}
 use Rattle.phy.proofs.Lines.{clock-hunting, clock-inside, clock-header, clock-frame}
 use Rattle.phy.proofs.Followers.{clock-follows}
 use Rattle.phy.proofs.Frames.{Started, follow-started, CapturedOnly, clock-captured}
 use Rattle.phy.proofs.Effects.{Effect, event-effect, afterRead-effect, afterHeader-effect, afterWrite-effect, afterFrame-effect}
 use Rattle.phy.proofs.Keeping.{keeps-typed, clock-record, clock-typed}
-use Rattle.phy.proofs.Banks.{Bank, event-bank, read-bank, ordinary-bank}
-use Rattle.phy.proofs.ControlBanks.{clauses-bank, control-bank}
+use Rattle.phy.proofs.Banks.{event-bank, read-bank, ordinary-bank}
+use Rattle.phy.proofs.ControlBanks.{control-bank}
 
 -- a PHY whose record passes checks 5 and 6, and which is sound
 pub record SoundPhy (p : Phy) : Type 0 where
@@ -45,7 +45,7 @@ pub record SoundPhy (p : Phy) : Type 0 where
 -- Registers and link
 module _ (p : Phy) (s : SoundPhy p) where
   bank : Bank p
-  bank = clauses-bank p (sound-clauses p (s .sound))
+  bank = sound-clauses p (s .sound) .bank
 
   -- what check 6 says of the masks and of the words of registers 0, 1 and 15
   right : (masksZero (p .masks) ≡ true) × (wordsRight (defaultOf 0 p) (defaultOf 1 p) (defaultOf 15 p) ≡ true)
@@ -111,21 +111,6 @@ module _ (p : Phy) (s : SoundPhy p) where
       go true = after-write (header .register) word
       go false = bank
 
--- the clauses of registers and link, with those of the follower and of the captured word
-bank-sound : (p : Phy) → Bank p → followerSound (p .follower) ≡ true → capturedSound p ≡ true → phySound p ≡ true
-bank-sound p b follows captured =
-    clauses-sound p
-    record {
-      registers-stand = b .registers-stand;
-      status-stands = b .status-stands;
-      control = b .control;
-      reset-stands = b .reset-stands;
-      complete-negotiates = b .complete-negotiates;
-      held-link-up = b .held-link-up;
-      follower-sound = follows;
-      captured-sound = captured;
-    }
-
 -- whom a PHY answers does not go by registers and link
 answering-same : (registers : List ℕ) (link : Bool) (p : Phy) (f : Follower) → answering (withBank registers link p) f ≡ answering p f
 unfolding answering answers implements
@@ -140,10 +125,14 @@ module _ {f : Phy → Phy} (effect : Effect f) (p : Phy) (s : SoundPhy p) where
         typed = keeps-typed effect p (s .typed);
         set-right = ap (λ q. registerSetRight (q .implemented) (q .defaults)) (effect .bank p) ∙ s .set-right;
         defaults-right = ap (λ q. defaultsRight (q .implemented) (q .defaults) (q .masks)) (effect .bank p) ∙ s .defaults-right;
-        sound = bank-sound (f p) b (ap (λ q. followerSound (q .follower)) (effect .bank p) ∙ now .follower-sound)
-            (ap capturedSound (effect .bank p)
-            ∙ ap (λ (t : Bool). t || eqb (p .captured) 0) (answering-same (f p .registers) (f p .link) p (p .follower))
-            ∙ now .captured-sound);
+        sound = clauses-sound (f p)
+            record {
+              bank = b;
+              follower-sound = ap (λ q. followerSound (q .follower)) (effect .bank p) ∙ now .follower-sound;
+              captured-sound = ap capturedSound (effect .bank p)
+                  ∙ ap (λ (t : Bool). t || eqb (p .captured) 0) (answering-same (f p .registers) (f p .link) p (p .follower))
+                  ∙ now .captured-sound;
+            };
       }
     where
       now : Clauses p
@@ -255,9 +244,12 @@ module _ (level : Bool) (p : Phy) (s : SoundPhy p) where
         typed = clock-typed level p (s .typed);
         set-right = ap (λ r. registerSetRight (r .1) (r .2)) (clock-record level p) ∙ s .set-right;
         defaults-right = ap (λ r. defaultsRight (r .1) (r .2) (r .3)) (clock-record level p) ∙ s .defaults-right;
-        sound = bank-sound (clock level p) clock-bank
-            (ap followerSound (clock-follows level p) ∙ started-sound _ (follow-started (enough p) level (p .follower) started))
-            (captured-sound (clock level p) (clock-captured level p started (sound-captured p (now .captured-sound))));
+        sound = clauses-sound (clock level p)
+            record {
+              bank = clock-bank;
+              follower-sound = ap followerSound (clock-follows level p) ∙ started-sound _ (follow-started (enough p) level (p .follower) started);
+              captured-sound = captured-sound (clock level p) (clock-captured level p started (sound-captured p (now .captured-sound)));
+            };
       }
     where
       now : Clauses p

@@ -41,8 +41,11 @@ registersStand p =
     every registerCount (λ r. leb r 1 || standsOutside (maskOf r p) (registerOf r p) (defaultOf r p))
 
 -- "as do all of register 1 but bits 5, 4, 2, 1"
+abbrev pub heldBits : ℕ
+heldBits = 2 ^ 5 + 2 ^ 4 + 2 ^ 2 + 2 ^ 1
+
 abbrev pub statusStands : Phy → Bool
-statusStands p = standsOutside (2 ^ 5 + 2 ^ 4 + 2 ^ 2 + 2 ^ 1) (statusOf p) (defaultOf 1 p)
+statusStands p = standsOutside heldBits (statusOf p) (defaultOf 1 p)
 
 -- Register 0, by its word and those of registers 1 and 15
 module _ (control status extended : ℕ) where
