@@ -52,7 +52,7 @@ status-fixed phy stands i small a b c d =
 -- a sound PHY rests on its words, and has nothing captured while it hunts
 steady : (phy : Phy) → Typed phy → phySound phy ≡ true → Steady phy
 steady phy typed sound =
-    record { defaults = typed .defaults; registers = typed .registers; fixed = status-fixed phy (sound-clauses phy sound .status-stands) }
+    record { defaults = typed .defaults; registers = typed .registers; fixed = status-fixed phy (sound-clauses phy sound .bank .status-stands) }
 
 empty : (phy : Phy) (ones : ℕ) → phySound phy ≡ true → phy .follower ≡ Hunting ones → phy .captured ≡ 0
 unfolding answering

@@ -10,7 +10,8 @@ use Rattle.verdict.specs.File.{byteAt, wordAt, fileVerdict}
 use Rattle.verdict.specs.Output.{tabulate}
 use Rattle.phy.specs.declared.Phy.{Phy}
 use Rattle.phy.specs.Record.{any, registerCount}
-use Rattle.phy.specs.Sound.{fresh, blank}
+use Rattle.phy.specs.Clock.{fresh}
+use Rattle.phy.specs.Sound.{blank}
 use Rattle.board.specs.declared.Board.{Board}
 use Rattle.board.specs.declared.Loaded.{Loaded}
 use Rattle.board.specs.Record.{faultOf}

@@ -12,8 +12,9 @@ use wire::Follower;
 use wire::Header;
 ghost use mathlib.Core.Path.{_≡_};
 ghost use Prim.Native.Nat.{_<_};
-ghost use Rattle.phy.specs.Sound.{speedAble, controlSound, registersStand, othersAtDefault, resetStands, followerSound, answering, phySound, zeros, huntsFresh, isBlank, blank};
+ghost use Rattle.phy.specs.Sound.{controlSound, registersStand, othersAtDefault, resetStands, followerSound, answering, phySound, zeros, huntsFresh, isBlank, blank};
 ghost use Rattle.phy.specs.Abilities.{one};
+ghost use Rattle.phy.specs.Control.{speedAble};
 ghost use Rattle.board.specs.Check.{placeSound};
 
 // Bits outside masks stand at default in registers above 1.
@@ -33,7 +34,7 @@ fn registers_stand(phy: Phy) -> bool
 
 // Whether the speed of bits 6 and 13 is able.
 fn speed_able(control: u16, status: u16, extended: u16) -> bool
-    ensures { λ r. ⌜ r ≡ speedAble (one 6 control) (one 13 control) status extended ⌝ }
+    ensures { λ r. ⌜ r ≡ speedAble status extended (one 6 control) (one 13 control) ⌝ }
 {
     if (control >> 6) % 2 == 1 {
         if (control >> 13) % 2 == 1 {

@@ -1,26 +1,31 @@
 -- A sound PHY by its clauses, so that a law can use one and a proof can give them one by one.
+use Prim.Native.Nat.{ℕ}
 use mathlib.Core.Bool.{Bool, true, _&&_}
 use mathlib.Core.Path.{_≡_}
 use Rattle.phy.specs.declared.Phy.{Phy}
-use Rattle.phy.specs.Sound.{registersStand, statusStands, ableSpeed, negotiationAble, restartNegotiates, duplexFixed, unidirectionAble, reservedClear, controlSound, resetStands, completeNegotiates, heldLinkUp, followerSound, capturedSound, phySound}
+use Rattle.phy.specs.Sound.{controlOf, statusOf, extendedOf, registersStand, statusStands, ableSpeed, negotiationAble, restartNegotiates, duplexFixed, unidirectionAble, reservedClear, controlSound, resetStands, completeNegotiates, heldLinkUp, followerSound, capturedSound, phySound}
 use Rattle.phy.proofs.Every.{both}
 
--- register 0's clauses
-pub record ControlClauses (p : Phy) : Type 0 where
-  pub able-speed : ableSpeed p ≡ true
-  pub negotiation-able : negotiationAble p ≡ true
-  pub restart-negotiates : restartNegotiates p ≡ true
-  pub duplex-fixed : duplexFixed p ≡ true
-  pub unidirection-able : unidirectionAble p ≡ true
-  pub reserved-clear : reservedClear p ≡ true
+-- register 0's clauses, by its word and those of registers 1 and 15
+pub record ControlClauses (control status extended : ℕ) : Type 0 where
+  pub able-speed : ableSpeed control status extended ≡ true
+  pub negotiation-able : negotiationAble control status extended ≡ true
+  pub restart-negotiates : restartNegotiates control status extended ≡ true
+  pub duplex-fixed : duplexFixed control status extended ≡ true
+  pub unidirection-able : unidirectionAble control status extended ≡ true
+  pub reserved-clear : reservedClear control status extended ≡ true
 
-pub record Clauses (p : Phy) : Type 0 where
+-- the clauses that speak of registers and link
+pub record Bank (p : Phy) : Type 0 where
   pub registers-stand : registersStand p ≡ true
   pub status-stands : statusStands p ≡ true
-  pub control : ControlClauses p
+  pub control : ControlClauses (controlOf p) (statusOf p) (extendedOf p)
   pub reset-stands : resetStands p ≡ true
   pub complete-negotiates : completeNegotiates p ≡ true
   pub held-link-up : heldLinkUp p ≡ true
+
+pub record Clauses (p : Phy) : Type 0 where
+  pub bank : Bank p
   pub follower-sound : followerSound (p .follower) ≡ true
   pub captured-sound : capturedSound p ≡ true
 
@@ -35,10 +40,11 @@ all-six a b c d e f h =
     (ha .0, hb .0, hc .0, hd .0, he .0, he .1)
 
 module _ (p : Phy) where
-  pub control-clauses : controlSound p ≡ true → ControlClauses p
+  pub control-clauses : controlSound p ≡ true → ControlClauses (controlOf p) (statusOf p) (extendedOf p)
   unfolding controlSound
   control-clauses h =
-      let all = all-six (ableSpeed p) (negotiationAble p) (restartNegotiates p) (duplexFixed p) (unidirectionAble p) (reservedClear p) h in
+      let of : (ℕ → ℕ → ℕ → Bool) → Bool = λ clause. clause (controlOf p) (statusOf p) (extendedOf p) in
+      let all = all-six (of ableSpeed) (of negotiationAble) (of restartNegotiates) (of duplexFixed) (of unidirectionAble) (of reservedClear) h in
       record {
         able-speed = all .0;
         negotiation-able = all .1;
@@ -48,7 +54,7 @@ module _ (p : Phy) where
         reserved-clear = all .5;
       }
 
-  pub clauses-control : ControlClauses p → controlSound p ≡ true
+  pub clauses-control : ControlClauses (controlOf p) (statusOf p) (extendedOf p) → controlSound p ≡ true
   unfolding controlSound
   clauses-control h =
       rw (h .able-speed, h .negotiation-able, h .restart-negotiates, h .duplex-fixed, h .unidirection-able, h .reserved-clear)
@@ -61,12 +67,14 @@ module _ (p : Phy) where
       let link = both (heldLinkUp p) (followerSound (p .follower) && capturedSound p) (all .5) in
       let ends = both (followerSound (p .follower)) (capturedSound p) (link .1) in
       record {
-        registers-stand = all .0;
-        status-stands = all .1;
-        control = control-clauses (all .2);
-        reset-stands = all .3;
-        complete-negotiates = all .4;
-        held-link-up = link .0;
+        bank = record {
+          registers-stand = all .0;
+          status-stands = all .1;
+          control = control-clauses (all .2);
+          reset-stands = all .3;
+          complete-negotiates = all .4;
+          held-link-up = link .0;
+        };
         follower-sound = ends .0;
         captured-sound = ends .1;
       }
@@ -75,12 +83,12 @@ module _ (p : Phy) where
   unfolding phySound
   clauses-sound h =
       rw (
-        h .registers-stand,
-        h .status-stands,
-        clauses-control (h .control),
-        h .reset-stands,
-        h .complete-negotiates,
-        h .held-link-up,
+        h .bank .registers-stand,
+        h .bank .status-stands,
+        clauses-control (h .bank .control),
+        h .bank .reset-stands,
+        h .bank .complete-negotiates,
+        h .bank .held-link-up,
         h .follower-sound,
         h .captured-sound,
       )

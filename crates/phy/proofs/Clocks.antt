@@ -8,11 +8,11 @@ use borrow.Author.Tests.{eq-eqb, ne-eqb, le-leb, lt-leb, leb-true, leb-false}
 use Rattle.wire.specs.declared.Drive.the-variants.{Released, Driven}
 use Rattle.wire.specs.declared.Follower.{Follower}
 use Rattle.wire.specs.declared.Follower.the-variants.{Hunting, Inside}
-use Rattle.wire.specs.Follower.{follow, headerSeen}
+use Rattle.wire.specs.Follower.{follow, headerSeen, answering}
 use Rattle.phy.specs.declared.Phy.{Phy}
 use Rattle.phy.specs.Abilities.{one}
 use Rattle.phy.specs.Fields.{withFollower}
-use Rattle.phy.specs.Clock.{enough, answers, answerBit, drivesIn, drives, actsIn, clock}
+use Rattle.phy.specs.Clock.{enough, answers, drivesIn, drives, actsIn, clock}
 
 pub clock-by : (level : Bool) (phy : Phy) (f : Follower) → phy .follower ≡ f
     → clock level phy ≡ withFollower (follow (enough phy) level (phy .follower)) (actsIn f level phy)
@@ -25,19 +25,19 @@ unfolding drivesIn
 drives-hunting phy ones e = ap (λ (f : Follower). drivesIn f phy) e
 
 module _ (phy : Phy) (seen bits : ℕ) (now : phy .follower ≡ Inside seen bits) where
-  inside : drives phy ≡ cond (answers (headerSeen seen bits) phy) (answerBit seen (phy .captured)) Released
+  inside : drives phy ≡ cond (answers (headerSeen seen bits) phy) (answering seen (phy .captured)) Released
   unfolding drivesIn
   inside = ap (λ (f : Follower). drivesIn f phy) now
 
   -- in a frame that is no own read of an implemented register nothing is driven
   pub drives-other : answers (headerSeen seen bits) phy ≡ false → drives phy ≡ Released
-  drives-other e = inside ∙ ap (λ (t : Bool). cond t (answerBit seen (phy .captured)) Released) e
+  drives-other e = inside ∙ ap (λ (t : Bool). cond t (answering seen (phy .captured)) Released) e
 
   -- in an own read the answer is driven
-  pub drives-own : answers (headerSeen seen bits) phy ≡ true → drives phy ≡ answerBit seen (phy .captured)
-  drives-own e = inside ∙ ap (λ (t : Bool). cond t (answerBit seen (phy .captured)) Released) e
+  pub drives-own : answers (headerSeen seen bits) phy ≡ true → drives phy ≡ answering seen (phy .captured)
+  drives-own e = inside ∙ ap (λ (t : Bool). cond t (answering seen (phy .captured)) Released) e
 
-  nothing : answerBit seen (phy .captured) ≡ Released → drives phy ≡ Released
+  nothing : answering seen (phy .captured) ≡ Released → drives phy ≡ Released
   nothing e = go (answers (headerSeen seen bits) phy) refl
     where
       go : (t : Bool) → answers (headerSeen seen bits) phy ≡ t → drives phy ≡ Released
@@ -46,16 +46,20 @@ module _ (phy : Phy) (seen bits : ℕ) (now : phy .follower ≡ Inside seen bits
 
   -- before bit 16 nothing is driven, "released for bit 15" too, nor past bit 32
   pub drives-early : seen < 15 → drives phy ≡ Released
+  unfolding answering
   drives-early h = nothing (rw (ne-eqb seen 15 (omega arith), lt-leb 16 seen (omega arith)))
 
   pub drives-late : 31 < seen → drives phy ≡ Released
+  unfolding answering
   drives-late h = nothing (rw (ne-eqb seen 15 (omega arith), le-leb 16 seen (omega arith), lt-leb seen 31 h))
 
   -- "drives 0 for bit 16, the word for bits 17 to 32"
   pub drives-zero : seen ≡ 15 → answers (headerSeen seen bits) phy ≡ true → drives phy ≡ Driven false
+  unfolding answering
   drives-zero h own = drives-own own ∙ rw (eq-eqb seen 15 h)
 
   pub drives-word : 16 ≤ seen → seen ≤ 31 → answers (headerSeen seen bits) phy ≡ true → drives phy ≡ Driven (one (31 - seen) (phy .captured))
+  unfolding answering
   drives-word h l own = drives-own own ∙ rw (ne-eqb seen 15 (omega arith), le-leb 16 seen h, le-leb seen 31 l)
 
 -- in an own read of an implemented register, with at least so many bits seen

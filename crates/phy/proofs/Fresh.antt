@@ -1,5 +1,5 @@
 -- A fresh PHY with a good record is sound: every register stands at its default, and the derived default of register 0 has an able speed.
-use Prim.Native.Nat.{ℕ, zero, _+_, _*_, _/_, _%_, _^_, _<_}
+use Prim.Native.Nat.{ℕ, _+_, _*_, _/_, _%_, _^_, _<_}
 use mathlib.Core.Bool.{Bool, true, false, not, _&&_, _||_, cond, or-true, or-false, not-or-self}
 use mathlib.Core.List.{List}
 use mathlib.Core.Path.{_≡_, refl, ap, sym, _∙_}
@@ -9,8 +9,10 @@ use borrow.Author.Tests.{eq-eqb, eqb-true, not-true}
 use Rattle.verdict.specs.Bits.{bit}
 use Rattle.phy.specs.declared.Phy.{Phy}
 use Rattle.phy.specs.Abilities.{one, able10, able100, able1000, ableHalf, ableFull}
-use Rattle.phy.specs.Record.{every, word, registerCount, statusClear, extendedClear, someAbility, derivedControl, controlDerived, wordsRight}
-use Rattle.phy.specs.Sound.{standsOutside, registersStand, speedAble, followerSound, answering, fresh, phySound}
+use Rattle.phy.specs.Control.{speedAble}
+use Rattle.phy.specs.Clock.{fresh}
+use Rattle.phy.specs.Record.{word, registerCount, statusClear, extendedClear, someAbility, derivedControl, controlDerived, wordsRight}
+use Rattle.phy.specs.Sound.{standsOutside, registersStand, followerSound, answering, phySound}
 use Rattle.phy.proofs.Every.{both, each-every}
 use Rattle.phy.proofs.Clauses.{Clauses, ControlClauses, clauses-sound}
 
@@ -91,10 +93,10 @@ zero-bit : (n : ℕ) → n ≡ 0 → eqb n 1 ≡ false
 zero-bit n e = rw e
 
 -- the fastest speed that is able is able
-fastest-able : (status extended : ℕ) → someAbility status extended ≡ true → speedAble (able1000 status extended) (not (able1000 status extended) && able100 status extended) status extended ≡ true
+fastest-able : (status extended : ℕ) → someAbility status extended ≡ true → speedAble status extended (able1000 status extended) (not (able1000 status extended) && able100 status extended) ≡ true
 fastest-able status extended some = go (able1000 status extended) (able100 status extended) refl refl
   where
-    go : (thousand hundred : Bool) → able1000 status extended ≡ thousand → able100 status extended ≡ hundred → speedAble (able1000 status extended) (not (able1000 status extended) && able100 status extended) status extended ≡ true
+    go : (thousand hundred : Bool) → able1000 status extended ≡ thousand → able100 status extended ≡ hundred → speedAble status extended (able1000 status extended) (not (able1000 status extended) && able100 status extended) ≡ true
     go true hundred p q = rw p p
     go false true p q = rw (p, q) q
     go false false p q = rw (p, q) (sym (or-false (able10 status extended)) ∙ (rw (q, p) at some))
@@ -117,7 +119,7 @@ module _ (address implemented : ℕ) (defaults masks : List ℕ) where
   abbrev new : Phy
   new = fresh address implemented defaults masks
 
-  fresh-control : ControlBits control status extended → someAbility status extended ≡ true → ControlClauses new
+  fresh-control : ControlBits control status extended → someAbility status extended ≡ true → ControlClauses control status extended
   fresh-control at some =
       record {
         able-speed = rw (at .bit-6, at .bit-13) (fastest-able status extended some);
@@ -132,12 +134,14 @@ module _ (address implemented : ℕ) (defaults masks : List ℕ) where
   unfolding registersStand followerSound answering
   fresh-clauses at some five two =
       record {
-        registers-stand = each-every _ registerCount (λ r l. rw (stands-same (word masks r) (word defaults r)) (or-true (leb r 1)));
-        status-stands = stands-same _ status;
-        control = fresh-control at some;
-        reset-stands = rw (at .bit-15);
-        complete-negotiates = rw five;
-        held-link-up = rw two;
+        bank = record {
+          registers-stand = each-every _ registerCount (λ r l. rw (stands-same (word masks r) (word defaults r)) (or-true (leb r 1)));
+          status-stands = stands-same _ status;
+          control = fresh-control at some;
+          reset-stands = rw (at .bit-15);
+          complete-negotiates = rw five;
+          held-link-up = rw two;
+        };
         follower-sound = refl;
         captured-sound = refl;
       }

@@ -1,4 +1,7 @@
 pub mod Clauses
+pub mod Banks
+pub mod ControlBanks
+pub mod SoundKept
 pub mod Clocks
 pub mod Derived
 pub mod Effects

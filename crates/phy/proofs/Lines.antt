@@ -8,11 +8,11 @@ use Rattle.wire.specs.declared.Drive.the-variants.{Released}
 use Rattle.wire.specs.declared.Follower.{Follower}
 use Rattle.wire.specs.declared.Follower.the-variants.{Hunting, Inside}
 use Rattle.wire.specs.declared.Header.{Header}
-use Rattle.wire.specs.Follower.{oneMore, follow, headerSeen}
+use Rattle.wire.specs.Follower.{oneMore, follow, headerSeen, answering}
 use Rattle.phy.specs.declared.Phy.{Phy}
 use Rattle.phy.specs.Fields.{withLine, withFollower}
 use Rattle.phy.specs.Registers.{implements}
-use Rattle.phy.specs.Clock.{enough, answers, word, afterHeader, afterFrame, answerBit, drivesIn, drives, atHeader, acts, clock}
+use Rattle.phy.specs.Clock.{enough, answers, word, afterHeader, afterFrame, drivesIn, drives, atHeader, acts, clock}
 use Rattle.phy.proofs.Followers.{goes-on}
 use Rattle.phy.proofs.Headers.{afterHeader-silent}
 use Rattle.phy.proofs.Effects.{afterHeader-effect, afterFrame-effect}
@@ -23,7 +23,7 @@ unfolding drivesIn
 drives-line-hunting ones captured phy = refl
 
 pub drives-line : (seen bits captured : ℕ) (phy : Phy)
-    → drives (withLine (Inside seen bits) captured phy) ≡ cond (answers (headerSeen seen bits) phy) (answerBit seen captured) Released
+    → drives (withLine (Inside seen bits) captured phy) ≡ cond (answers (headerSeen seen bits) phy) (answering seen captured) Released
 unfolding drivesIn answers implements
 drives-line seen bits captured phy = refl
 

@@ -2,15 +2,15 @@
 use Prim.Native.Nat.{ℕ, _-_, _%_, _^_}
 use mathlib.Core.Bool.{Bool, false, _&&_, cond}
 use mathlib.Core.List.{List}
-use lib.Dec.{eqb, leb}
+use lib.Dec.{eqb}
 use Rattle.frame.specs.Frame.{headerBits, frameBits}
 use Rattle.frame.specs.List.{read, write}
 use Rattle.wire.specs.declared.Drive.{Drive}
-use Rattle.wire.specs.declared.Drive.the-variants.{Released, Driven}
+use Rattle.wire.specs.declared.Drive.the-variants.{Released}
 use Rattle.wire.specs.declared.Follower.{Follower}
 use Rattle.wire.specs.declared.Follower.the-variants.{Hunting, Inside}
 use Rattle.wire.specs.declared.Header.{Header}
-use Rattle.wire.specs.Follower.{oneMore, follow, headerSeen}
+use Rattle.wire.specs.Follower.{oneMore, follow, headerSeen, answering}
 use Rattle.wire.specs.Wire.{Party}
 use Rattle.wire.specs.Machines.{Core}
 use Rattle.phy.specs.declared.Phy.{Phy}
@@ -60,18 +60,11 @@ afterHeader header phy = cond (answers header phy) (afterRead (header .register)
 unfoldable pub afterFrame : Header → ℕ → Phy → Phy
 afterFrame header frameData phy = cond (stores header phy) (afterWrite (header .register) frameData phy) phy
 
--- what the captured word drives: "released for bit 15, drives 0 for bit 16, the word for bits 17 to 32"
-abbrev pub answerBit : ℕ → ℕ → Drive
-answerBit seen captured =
-    cond (eqb seen 15) (Driven false)
-    (cond (leb 16 seen && leb seen 31) (Driven (one (31 - seen) captured))
-    Released)
-
 -- what a PHY drives in the next clock
 unfoldable pub drivesIn : Follower → Phy → Drive
 drivesIn (Hunting ones) phy = Released
 drivesIn (Inside seen bits) phy =
-    cond (answers (headerSeen seen bits) phy) (answerBit seen (phy .captured)) Released
+    cond (answers (headerSeen seen bits) phy) (answering seen (phy .captured)) Released
 
 abbrev pub drives : Phy → Drive
 drives phy = drivesIn (phy .follower) phy

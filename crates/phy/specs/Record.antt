@@ -25,27 +25,23 @@ registerCount = 32
 abbrev pub word : List ℕ → ℕ → ℕ
 word words r = getD words r 0
 
--- "implemented mask (4 bytes, bit r for register r)"
-abbrev pub implements : ℕ → ℕ → Bool
-implements implemented r = one r implemented
-
--- Check 5, the register set
+-- Check 5, the register set, by the "implemented mask (4 bytes, bit r for register r)"
 -- "registers 0 and 1 implemented, 13 and 14 not"
 abbrev pub basicSet : ℕ → Bool
 basicSet implemented =
-    implements implemented 0
-    && (implements implemented 1 && (not (implements implemented 13) && not (implements implemented 14)))
+    one 0 implemented
+    && (one 1 implemented && (not (one 13 implemented) && not (one 14 implemented)))
 
 -- "15 implemented exactly if default bit 1.8 is one"
 abbrev pub extendedStatusSet : ℕ → List ℕ → Bool
-extendedStatusSet implemented defaults = Bool·beq (implements implemented 15) (one 8 (word defaults 1))
+extendedStatusSet implemented defaults = Bool·beq (one 15 implemented) (one 8 (word defaults 1))
 
 -- "any other register above 1, 15 apart": 2 to 12 and 16 to 31
 abbrev pub otherRegister : ℕ → Bool
 otherRegister r = (leb 2 r && leb r 12) || leb 16 r
 
 unfoldable pub othersImplemented : ℕ → Bool
-othersImplemented implemented = any registerCount (λ r. otherRegister r && implements implemented r)
+othersImplemented implemented = any registerCount (λ r. otherRegister r && one r implemented)
 
 -- "bit 1.0 one exactly if any other register above 1, 15 apart, is implemented"
 abbrev pub extendedSet : ℕ → List ℕ → Bool
@@ -68,7 +64,7 @@ module _ (status extended : ℕ) where
 -- "unimplemented registers have default and mask zero"
 unfoldable pub unimplementedZero : ℕ → List ℕ → List ℕ → Bool
 unimplementedZero implemented defaults masks =
-    every registerCount (λ r. implements implemented r || (eqb (word defaults r) 0 && eqb (word masks r) 0))
+    every registerCount (λ r. one r implemented || (eqb (word defaults r) 0 && eqb (word masks r) 0))
 
 -- "masks of 0, 1, 2, 3, 15 zero"
 abbrev pub masksZero : List ℕ → Bool

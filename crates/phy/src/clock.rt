@@ -1,9 +1,9 @@
 // A PHY in a clock: what it drives, and what it is after it sampled the level.
 ghost use mathlib.Core.Path.{_≡_};
 ghost use Prim.Native.Nat.{_≤_};
-ghost use Rattle.wire.specs.Follower.{oneMore};
+ghost use Rattle.wire.specs.Follower.{oneMore, answering};
 ghost use Rattle.phy.specs.Fields.{withFollower, withCaptured};
-ghost use Rattle.phy.specs.Clock.{fresh, enough, takes, answers, stores, afterHeader, afterFrame, answerBit, drives, atHeader, acts, clock};
+ghost use Rattle.phy.specs.Clock.{fresh, enough, takes, answers, stores, afterHeader, afterFrame, drives, atHeader, acts, clock};
 use crate::Phy;
 use crate::status::Status;
 use frame::Transaction;
@@ -125,7 +125,7 @@ impl Phy {
     // What an answer drives after this many frame bits: 0 for bit 16, then the captured word.
     fn answer_bit(seen: u8, captured: u16) -> Drive
         requires { ⌜ (15 ≤ seen) × (seen ≤ 31) ⌝ }
-        ensures { λ r. ⌜ r ≡ answerBit seen captured ⌝ }
+        ensures { λ r. ⌜ r ≡ answering seen captured ⌝ }
     {
         if seen == Phy::BEFORE_ANSWER {
             return Drive::Driven(false);

@@ -3,14 +3,15 @@ use mathlib.Core.Path.{_≡_, refl, sym}
 use mathlib.Core.Bool.{false, _&&_}
 use Prim.Native.Nat.{_≤_, _-_}
 use native.Mathlib.Omega.{arith}
-use Rattle.phy.specs.Record.{any, otherRegister, implements, othersImplemented}
+use Rattle.phy.specs.Abilities.{one}
+use Rattle.phy.specs.Record.{any, otherRegister, othersImplemented}
 use Rattle.phy.proofs.Every.{any-passes, any-next}
 use borrow.Author.Needs.{needs}
 use Rattle.board.proofs.record.others_implemented.Statement.{statement}
 use Rattle.board.proofs.record.others_implemented.Tie as tie
 
 abbrev Inv-loop : tie.InvT-loop
-Inv-loop implemented r₀ r = (r ≤ 32) × (any r (λ i. otherRegister i && implements implemented i) ≡ false)
+Inv-loop implemented r₀ r = (r ≤ 32) × (any r (λ i. otherRegister i && one i implemented) ≡ false)
 
 abbrev μ-loop : tie.MeasureT-loop
 μ-loop implemented r₀ r = 32 - r

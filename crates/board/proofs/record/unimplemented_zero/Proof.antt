@@ -5,14 +5,15 @@ use Prim.Native.Nat.{_≤_, _-_}
 use native.Mathlib.Omega.{arith}
 use lib.Dec.{eqb}
 use borrow.Author.Tests.{not-true, not-false}
-use Rattle.phy.specs.Record.{every, word, implements, unimplementedZero}
+use Rattle.phy.specs.Abilities.{one}
+use Rattle.phy.specs.Record.{every, word, unimplementedZero}
 use Rattle.phy.proofs.Every.{every-fails, every-next}
 use borrow.Author.Needs.{needs}
 use Rattle.board.proofs.record.unimplemented_zero.Statement.{statement}
 use Rattle.board.proofs.record.unimplemented_zero.Tie as tie
 
 abbrev Inv-loop : tie.InvT-loop
-Inv-loop implemented defaults masks r₀ r = (r ≤ 32) × (every r (λ i. implements implemented i || (eqb (word defaults i) 0 && eqb (word masks i) 0)) ≡ true)
+Inv-loop implemented defaults masks r₀ r = (r ≤ 32) × (every r (λ i. one i implemented || (eqb (word defaults i) 0 && eqb (word masks i) 0)) ≡ true)
 
 abbrev μ-loop : tie.MeasureT-loop
 μ-loop implemented defaults masks r₀ r = 32 - r

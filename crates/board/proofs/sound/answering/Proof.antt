@@ -1,11 +1,21 @@
 -- Only inside a frame with 14 to 31 bits seen: the header decides.
+use Prim.Native.Nat.{ℕ, _%_}
+use mathlib.Core.Path.{_≡_}
+use mathlib.Core.Bool.{true}
+use lib.Dec.{ltb}
 use borrow.Author.Needs.{needs}
 use Rattle.board.proofs.sound.answering.Statement.{statement}
 use Rattle.board.proofs.sound.answering.Tie as tie
-use borrow.Author.Tests.{lt-leb, le-leb}
+use borrow.Author.Tests.{lt-leb, le-leb, lt-ltb}
 use native.Mathlib.Omega.{arith}
 use Rattle.wire.specs.Follower.{headerOf}
+use Rattle.phy.specs.Registers.{implements}
+use Rattle.phy.specs.Clock.{answers}
 use Rattle.phy.specs.Sound.{answering}
+
+-- a header names one of 32 registers
+register-below : (word : ℕ) → ltb (word % 32) 32 ≡ true
+register-below word = lt-ltb (word % 32) 32 (omega arith)
 
 enum-told : tie.Need-enum-told
 enum-told c = search needs
@@ -42,13 +52,14 @@ unfolding answering
 returns-3 c = search needs
 
 returns-4 : tie.Need-returns-4
-unfolding answering
+unfolding answering answers implements headerOf
 returns-4 c =
     rw (
       c .before .before .before .before .before .before .before .before .before .follower .given .1,
       le-leb 14 _ (c .before .before .before .before .before .before .before .if1 .left),
       le-leb _ 31 (c .before .before .before .before .before .before .if2 .left),
       c .before .before .before .before .before .of .ensures,
+      register-below,
     )
 
 pub answering-spec : {M : Type 1} → statement M
