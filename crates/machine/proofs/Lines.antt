@@ -13,10 +13,9 @@ use lib.Bits.{bitOr}
 use lib.Dec.{eqb}
 use lib.Pow.{pow-lt}
 use Rattle.wire.specs.Wire.{asBit, stationDrive}
-use Rattle.wire.specs.Follower.{oneMore, headerSeen}
+use Rattle.wire.specs.Follower.{oneMore, headerSeen, answering}
 use Rattle.phy.specs.Words.{setBit}
 use Rattle.phy.proofs.Words.{or-bit}
-use Rattle.phy.specs.Clock.{answerBit}
 use Rattle.machine.specs.declared.line.Line.{Line}
 use Rattle.machine.specs.Lines.{lineAnswers, lineDrivesIn, lineDrives, isOwn, actsIn, lineActs}
 
@@ -35,12 +34,12 @@ unfolding lineDrivesIn
 drives-hunting line ones e = ap (λ (f : Follower). lineDrivesIn f line) e
 
 module _ (line : Line) (seen bits : ℕ) (now : line .follower ≡ Inside seen bits) where
-  pub drives-inside : lineDrives line ≡ cond (lineAnswers (headerSeen seen bits) line) (answerBit seen (line .captured)) Released
+  pub drives-inside : lineDrives line ≡ cond (lineAnswers (headerSeen seen bits) line) (answering seen (line .captured)) Released
   unfolding lineDrivesIn
   drives-inside = ap (λ (f : Follower). lineDrivesIn f line) now
 
   -- outside bits 16 to 32 nothing is driven
-  nothing : answerBit seen (line .captured) ≡ Released → lineDrives line ≡ Released
+  nothing : answering seen (line .captured) ≡ Released → lineDrives line ≡ Released
   nothing e = drives-inside ∙ rw e (go (lineAnswers (headerSeen seen bits) line))
     where
       go : (t : Bool) → cond t Released Released ≡ Released
@@ -48,9 +47,11 @@ module _ (line : Line) (seen bits : ℕ) (now : line .follower ≡ Inside seen b
       go false = refl
 
   pub drives-early : seen < 15 → lineDrives line ≡ Released
+  unfolding answering
   drives-early h = nothing (rw (ne-eqb seen 15 (omega arith), lt-leb 16 seen (omega arith)))
 
   pub drives-late : 31 < seen → lineDrives line ≡ Released
+  unfolding answering
   drives-late h = nothing (rw (ne-eqb seen 15 (omega arith), le-leb 16 seen (omega arith), lt-leb seen 31 h))
 
 -- a step that drives nothing

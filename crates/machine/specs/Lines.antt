@@ -12,13 +12,13 @@ use Rattle.wire.specs.declared.Follower.{Follower}
 use Rattle.wire.specs.declared.Follower.the-variants.{Hunting, Inside}
 use Rattle.wire.specs.declared.Header.{Header}
 use Rattle.wire.specs.Wire.{asBit}
-use Rattle.wire.specs.Follower.{oneMore, follow, headerSeen}
+use Rattle.wire.specs.Follower.{oneMore, follow, headerSeen, answering}
 use Rattle.phy.specs.declared.Phy.{Phy}
 use Rattle.phy.specs.Abilities.{one}
 use Rattle.phy.specs.Words.{setBit}
 use Rattle.phy.specs.Fields.{withLine}
 use Rattle.phy.specs.Sound.{nowhere}
-use Rattle.phy.specs.Clock.{enough, answerBit}
+use Rattle.phy.specs.Clock.{enough}
 use Rattle.verdict.specs.File.{records}
 use Rattle.verdict.specs.Output.{tabulate}
 use Rattle.board.specs.Events.{eventRecord, eventClock}
@@ -48,7 +48,7 @@ lineAnswers header line =
 unfoldable pub lineDrivesIn : Follower → Line → Drive
 lineDrivesIn (Hunting ones) line = Released
 lineDrivesIn (Inside seen bits) line =
-    cond (lineAnswers (headerSeen seen bits) line) (answerBit seen (line .captured)) Released
+    cond (lineAnswers (headerSeen seen bits) line) (answering seen (line .captured)) Released
 
 abbrev pub lineDrives : Line → Drive
 lineDrives line = lineDrivesIn (line .follower) line

@@ -3,7 +3,7 @@ ghost use mathlib.Core.Path.{_≡_};
 ghost use Prim.Native.Nat.{_≤_, _<_};
 ghost use Rattle.phy.specs.Fields.{withLine};
 ghost use mathlib.Core.List.{map};
-ghost use Rattle.phy.specs.Clock.{answerBit};
+ghost use Rattle.wire.specs.Follower.{answering};
 ghost use Rattle.machine.specs.Lines.{lineOf, lineAnswers, lineDrives, isOwn, lineActs, captures, lineFollows, joinedBoard};
 use board::Board;
 use frame::Transaction;
@@ -77,7 +77,7 @@ impl Line {
     // What an answer drives after this many frame bits: 0 for bit 16, then the captured word.
     fn answer_bit(seen: u8, captured: u16) -> Drive
         requires { ⌜ (15 ≤ seen) × (seen ≤ 31) ⌝ }
-        ensures { λ r. ⌜ r ≡ answerBit seen captured ⌝ }
+        ensures { λ r. ⌜ r ≡ answering seen captured ⌝ }
     {
         if seen == Line::BEFORE_ANSWER {
             return Drive::Driven(false);

@@ -1,4 +1,5 @@
 -- Bit 16 is 0, and the word follows from its high bit on.
+use Rattle.wire.specs.Follower.{answering}
 use Prim.Native.Nat.{_≤_}
 use borrow.Author.Tests.{ne-eqb, le-leb}
 use native.Mathlib.Omega.{arith}
@@ -7,6 +8,7 @@ use Rattle.machine.proofs.line.Line.answer_bit.Statement.{statement}
 use Rattle.machine.proofs.line.Line.answer_bit.Tie as tie
 
 returns : tie.Need-returns
+unfolding answering
 returns c = rw (c .if1 .taken)
 
 sub-t4 : tie.Need-sub-t4
@@ -19,6 +21,7 @@ shr-t6 : tie.Need-shr-t6
 shr-t6 c = search needs
 
 returns-2 : tie.Need-returns-2
+unfolding answering
 returns-2 c = let above : 16 ≤ c .before .args .seen = omega arith in rw (ne-eqb _ 15 (c .if1 .left), le-leb 16 _ above, le-leb _ 31 (c .before .pre .1))
 
 pub answer-bit-spec : {M : Type 1} → statement M
