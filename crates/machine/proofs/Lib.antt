@@ -11,3 +11,4 @@ pub mod Transactions
 pub mod Reading
 pub mod Transacts
 pub mod Laws
+pub mod RunLaws
