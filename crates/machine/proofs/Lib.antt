@@ -12,3 +12,4 @@ pub mod Reading
 pub mod Transacts
 pub mod Laws
 pub mod RunLaws
+pub mod Kept

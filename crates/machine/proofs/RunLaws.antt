@@ -1,7 +1,7 @@
 -- What a run's log and board say, in the document's words.
 use Prim.Native.Nat.{ℕ, zero, suc, _+_, _*_, _/_, _%_, _^_, _≤_, _<_}
 use mathlib.Core.Path.{_≡_, refl, sym, ap, ap₂, _∙_}
-use mathlib.Core.Bool.{Bool, true, false, _&&_, _||_, cond, or-false}
+use mathlib.Core.Bool.{Bool, true, false, _&&_, _||_, or-false}
 use mathlib.Core.List.{List, [], _∷_, _++_, map, map-append}
 use native.Mathlib.Omega.{arith}
 use native.Mathlib.Decide.{ℕ-discrete}
@@ -11,7 +11,6 @@ use lib.Dec.{eqb, leb}
 use borrow.Author.Tests.{eq-eqb, ne-eqb, le-leb, leb-true}
 use Rattle.verdict.specs.Bits.{bit}
 use Rattle.verdict.specs.Lists.{All}
-use Rattle.verdict.specs.File.{records}
 use Rattle.verdict.specs.Output.{tabulate, join}
 use Rattle.verdict.proofs.Elements.{all-map}
 use Rattle.verdict.proofs.Lists.{length-pieces, getD-pieces, join-append}
@@ -23,19 +22,17 @@ use Rattle.phy.specs.declared.Phy.{Phy}
 use Rattle.phy.specs.Abilities.{one}
 use Rattle.phy.specs.Words.{setBit}
 use Rattle.phy.specs.Typed.{Typed}
-use Rattle.phy.specs.Events.{event}
 use Rattle.phy.proofs.Words.{set-same, set-other}
-use Rattle.phy.proofs.Effects.{event-effect}
 use Rattle.phy.proofs.Keeping.{keeps-typed, clock-typed}
 use Rattle.board.specs.declared.Board.{Board}
-use Rattle.board.specs.Events.{eventRecord, eventCode}
 use Rattle.machine.specs.declared.Outcome.{Outcome}
 use Rattle.machine.specs.Outcome.{physOf}
-use Rattle.machine.specs.Events.{isFor, happensFrom, happens}
+use Rattle.machine.specs.Events.{happens}
 use Rattle.machine.specs.Log.{isDriving, flagsOf, maskFrom, clockRecord}
 use Rattle.machine.specs.Run.{addressesOf, partyWith, stationDrives, atStart, physAfterRun, logOfRun, Ran}
 use Rattle.machine.proofs.Lockstep.{drivesIn, log-by-clock}
 use Rattle.machine.proofs.Laws.{hands-back-unique}
+use Rattle.machine.proofs.Kept.{happens-effect}
 
 -- two results that meet the promise of `run` are equal, as are the logs
 pub run-unique : (board : Board) (steps events log : List ℕ) {r s : Outcome} {log₁ log₂ : List ℕ} → Ran board steps events log r log₁ → Ran board steps events log s log₂ → (r ≡ s) × (log₁ ≡ log₂)
@@ -180,19 +177,7 @@ runs-keep-all party Q clocks events (d ∷ ds) c ps all =
     (all-map Q Q (party .happens (suc c)) (clocked party d ps) (events (suc c)) (all-map Q Q (party .samples _) ps (clocks _) all))
 
 -- every field stays within its type
-happens-typed-from : (events : List ℕ) (k left c : ℕ) (phy : Phy) → Typed phy → Typed (happensFrom events k left c phy)
-unfolding happensFrom
-happens-typed-from events k zero c phy typed = typed
-happens-typed-from events k (suc left) c phy typed = happens-typed-from events (suc k) left c _ (go (isFor events k c phy))
-  where
-    go : (t : Bool) → Typed (cond t (event (eventCode events k) phy) phy)
-    go true = keeps-typed (event-effect (eventCode events k)) phy typed
-    go false = typed
-
-pub happens-typed : (events : List ℕ) (c : ℕ) (phy : Phy) → Typed phy → Typed (happens events c phy)
-happens-typed events c phy typed = happens-typed-from events 0 (records eventRecord events) c phy typed
-
 pub run-typed : (board : Board) (steps events : List ℕ) → All Typed (physOf board) → All Typed (physAfterRun board steps events)
 run-typed board steps events typed =
-    runs-keep-all (partyWith events) Typed clock-typed (happens-typed events) (stationDrives steps) 0 (atStart board events)
-    (all-map Typed Typed (happens events 0) (physOf board) (happens-typed events 0) typed)
+    runs-keep-all (partyWith events) Typed clock-typed (λ c. keeps-typed (happens-effect events c)) (stationDrives steps) 0 (atStart board events)
+    (all-map Typed Typed (happens events 0) (physOf board) (keeps-typed (happens-effect events 0)) typed)

@@ -10,6 +10,10 @@ use Rattle.phy.specs.declared.Phy.{Phy}
 use Rattle.board.specs.declared.Board.{Board}
 use Rattle.machine.specs.declared.Outcome.{Outcome}
 
+-- an outcome by its parts
+abbrev pub outcomeOf : Verdict → Board → Outcome
+outcomeOf verdict board = record { verdict = verdict; board = board }
+
 -- the PHYs of a board, and the board with others in their places
 abbrev pub physOf : Board → List Phy
 physOf board = take (board .count) (board .phys)

@@ -12,9 +12,19 @@ use board::Board;
 pub use clocks::run;
 use verdict::Verdict;
 pub use without_wire::plain;
+ghost use mathlib.Core.Path.{_≡_};
+ghost use Rattle.machine.specs.Outcome.{outcomeOf};
 
 // What a machine hands back.
 pub struct Outcome {
     pub verdict: Verdict,
     pub board: Board,
+}
+
+impl Outcome {
+    fn of(verdict: Verdict, board: Board) -> Outcome
+        ensures { λ r. ⌜ r ≡ outcomeOf verdict board ⌝ }
+    {
+        Outcome { verdict, board }
+    }
 }

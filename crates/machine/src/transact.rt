@@ -62,7 +62,8 @@ fn read_of(board: Board, transaction: Transaction) -> Answer
     while i < count {
         let phy = board.phys[i];
         if phy.answers(header) {
-            return transaction.answer(Answer::ANSWERED, phy.word(header.register));
+            let held = phy.word(header.register);
+            return transaction.answer(Answer::ANSWERED, held);
         }
         i += 1;
     }

@@ -18,51 +18,31 @@ pub fn plain(board: Board, list: &[u8], events: &[u8], answers: &mut [u8]) -> Ou
 {
     let sound = check(board);
     let Verdict::Done(_) = sound else {
-        return Outcome {
-            verdict: sound,
-            board,
-        };
+        return Outcome::of(sound, board);
     };
     let listed = check_list(list);
     let Verdict::Done(count) = listed else {
-        return Outcome {
-            verdict: listed,
-            board,
-        };
+        return Outcome::of(listed, board);
     };
     let happening = check_events(board, events, count * Frame::CLOCKS);
     let Verdict::Done(_) = happening else {
-        return Outcome {
-            verdict: happening,
-            board,
-        };
+        return Outcome::of(happening, board);
     };
     if answers.len() < count * Answer::BYTES {
-        return Outcome {
-            verdict: Verdict::Refused(Verdict::NO_ROOM, 0),
-            board,
-        };
+        return Outcome::of(Verdict::Refused(Verdict::NO_ROOM, 0), board);
     }
     let mut so_far = happen_until(board, events, 0, 0);
     let mut k = 0;
     while k < count {
         let stands = so_far.board;
-        let transacted = transact(
-            stands,
-            transaction_at(list, k),
-            events,
-            so_far.next,
-            k * Frame::CLOCKS,
-        );
+        let transaction = transaction_at(list, k);
+        let done = transact(stands, transaction, events, so_far.next, k * Frame::CLOCKS);
         let at = k * Answer::BYTES;
         let end = at + Answer::BYTES;
-        transacted.answer.put(&mut answers[at..end]);
-        so_far = transacted.after;
+        done.answer.put(&mut answers[at..end]);
+        so_far = done.after;
         k += 1;
     }
     let stands = so_far.board;
-    Outcome {
-        verdict: Verdict::Done(count * Answer::BYTES),
-        board: stands,
-    }
+    Outcome::of(Verdict::Done(count * Answer::BYTES), stands)
 }

@@ -84,10 +84,13 @@ enum-told c = search needs
 enum-told-2 : tie.Need-enum-told-2 Inv-loop μ-loop
 enum-told-2 c = search needs
 
+of-requires : tie.Need-of-requires Inv-loop μ-loop
+of-requires c κs = tt
+
 returns : tie.Need-returns Inv-loop μ-loop
 returns c =
-    let refused = sym (c .before .before .check .ensures) ∙ c .enum-told2 .given .1 in
-    refuses-back (rw refused) (c .enum-told2 .given .1)
+    let refused = sym (c .before .before .before .check .ensures) ∙ c .before .enum-told2 .given .1 in
+    rw (c .of .ensures) (refuses-back (rw refused) (c .before .enum-told2 .given .1))
 
 check-list-requires : tie.Need-check-list-requires Inv-loop μ-loop
 check-list-requires c κs = tt
@@ -98,10 +101,13 @@ enum-known-listed c = search needs
 enum-told-3 : tie.Need-enum-told-3 Inv-loop μ-loop
 enum-told-3 c = search needs
 
+of-requires-2 : tie.Need-of-requires-2 Inv-loop μ-loop
+of-requires-2 c κs = tt
+
 returns-2 : tie.Need-returns-2 Inv-loop μ-loop
 returns-2 c =
-    let refused = sym (c .before .before .check-list .ensures) ∙ c .enum-told3 .given .1 in
-    refuses-back (rw (sound (c .before .before .before), refused)) (c .enum-told3 .given .1)
+    let refused = sym (c .before .before .before .check-list .ensures) ∙ c .before .enum-told3 .given .1 in
+    rw (c .of2 .ensures) (refuses-back (rw (sound (c .before .before .before .before), refused)) (c .before .enum-told3 .given .1))
 
 mul-check-events : tie.Need-mul-check-events Inv-loop μ-loop
 mul-check-events c = omega (arith, few c)
@@ -115,16 +121,22 @@ enum-told-4 c = search needs
 enum-told-5 : tie.Need-enum-told-5 Inv-loop μ-loop
 enum-told-5 c = search needs
 
+of-requires-3 : tie.Need-of-requires-3 Inv-loop μ-loop
+of-requires-3 c κs = tt
+
 returns-3 : tie.Need-returns-3 Inv-loop μ-loop
 returns-3 c =
-    let refused = sym (c .before .before .check-events .ensures) ∙ c .enum-told5 .given .1 in
-    refuses-back (rw (sound (c .before .before .before .before .before .before .before), listed (c .before .before .before), refused)) (c .enum-told5 .given .1)
+    let refused = sym (c .before .before .before .check-events .ensures) ∙ c .before .enum-told5 .given .1 in
+    rw (c .of3 .ensures) (refuses-back (rw (sound (c .before .before .before .before .before .before .before .before), listed (c .before .before .before .before), refused)) (c .before .enum-told5 .given .1))
 
 mul-if1 : tie.Need-mul-if1 Inv-loop μ-loop
 mul-if1 c = omega (arith, few (c .before .before .before))
 
+of-requires-4 : tie.Need-of-requires-4 Inv-loop μ-loop
+of-requires-4 c κs = tt
+
 returns-4 : tie.Need-returns-4 Inv-loop μ-loop
-returns-4 c = refuses-back (rw (sound (c .before .before .before .before .before .before .before .before), listed (c .before .before .before .before), happening (c .before), lt-ltb _ _ (c .if1 .taken))) refl
+returns-4 c = rw (c .of4 .ensures) (refuses-back (rw (sound (c .before .before .before .before .before .before .before .before .before), listed (c .before .before .before .before .before), happening (c .before .before), lt-ltb _ _ (c .before .if1 .taken))) refl)
 
 happen-until-requires : tie.Need-happen-until-requires Inv-loop μ-loop
 happen-until-requires c κs = small (c .before)
@@ -183,32 +195,36 @@ loop-again c =
       rw (puts, loop .inv .2) (piece-next 6 (piece (args .list .now) events start) (λ j. refl) (args .answers .now) (loop .k)),
     )
 
-mul-t16 : tie.Need-mul-t16 Inv-loop μ-loop
-mul-t16 c = omega (arith, few (c .before .before .before .before .before .before .before .before))
+mul-t17 : tie.Need-mul-t17 Inv-loop μ-loop
+mul-t17 c = omega (arith, few (c .before .before .before .before .before .before .before .before))
+
+of-requires-5 : tie.Need-of-requires-5 Inv-loop μ-loop
+of-requires-5 c κs = tt
 
 same-length : tie.Need-same-length Inv-loop μ-loop
-same-length c = room (c .before .before)
+same-length c = room (c .before .before .before)
 
 returns-5 : tie.Need-returns-5 Inv-loop μ-loop
 returns-5 c =
-    let args = c .before .before .before .before .before .before .before .before .before .before .before .before .before .before .before .before .before .before .args in
+    let args = c .before .before .before .before .before .before .before .before .before .before .before .before .before .before .before .before .before .before .before .args in
     let list = args .list .now in
     let events = args .events .now in
     let out = args .answers .now in
-    let start = c .before .before .before .happen-until .result in
-    let loop = c .before .before .loop in
-    let n = c .before .before .before .before .before .before .before .before .before .listed .given .0 .0 in
-    let accepted = listed (c .before .before .before .before .before .before .before .before) in
+    let start = c .before .before .before .before .happen-until .result in
+    let loop = c .before .before .before .loop in
+    let n = c .before .before .before .before .before .before .before .before .before .before .listed .given .0 .0 in
+    let accepted = listed (c .before .before .before .before .before .before .before .before .before) in
     let whole = accepted-list list n accepted .count in
     let all : loop .k ≡ n = omega arith in
     let ends = rw all at (loop .inv .1) in
-    succeeds-back
-    (rw (sound (c .before .before .before .before .before .before .before .before .before .before .before .before), accepted, happening (c .before .before .before .before .before), le-ltb _ _ (c .before .before .before .before .if1 .left)))
+    rw (c .of5 .ensures)
+    (succeeds-back
+    (rw (sound (c .before .before .before .before .before .before .before .before .before .before .before .before .before), accepted, happening (c .before .before .before .before .before .before), le-ltb _ _ (c .before .before .before .before .before .if1 .left)))
     (loop .inv .2
     ∙ ap (pieced 6 (piece list events (start .board)) out) all
     ∙ pieced-all 6 (piece list events (start .board)) (λ j. refl) out n
-    ∙ ap (λ xss. written (join xss) out) (planned-answers (args .board) list events start (starts (c .before .before .before)) n whole))
-    (planned-board (args .board) list events start (starts (c .before .before .before)) n whole (loop .so-far) ends)
+    ∙ ap (λ xss. written (join xss) out) (planned-answers (args .board) list events start (starts (c .before .before .before .before)) n whole))
+    (planned-board (args .board) list events start (starts (c .before .before .before .before)) n whole (loop .so-far) ends))
 
 pub plain-spec : {M : Type 1} → statement M
 plain-spec =
@@ -219,17 +235,21 @@ plain-spec =
     check-requires
     enum-told
     enum-told-2
+    of-requires
     returns
     check-list-requires
     enum-known-listed
     enum-told-3
+    of-requires-2
     returns-2
     mul-check-events
     check-events-requires
     enum-told-4
     enum-told-5
+    of-requires-3
     returns-3
     mul-if1
+    of-requires-4
     returns-4
     happen-until-requires
     loop-holds
@@ -245,6 +265,7 @@ plain-spec =
     add-k
     loop-less
     loop-again
-    mul-t16
+    mul-t17
+    of-requires-5
     same-length
     returns-5)
