@@ -1,15 +1,14 @@
 -- The PHYs of a run after k of its clocks, and what each clock of the log says of them.
 use Prim.Native.Nat.{ℕ, zero, suc, _+_, _%_, _^_, _≤_, _<_}
-use mathlib.Core.Path.{_≡_, refl, sym, ap, ap₂, _∙_}
+use mathlib.Core.Path.{_≡_, refl, sym, ap, _∙_}
 use mathlib.Core.Bool.{Bool, true, false, cond}
 use mathlib.Core.List.{List, [], _∷_, _++_, map, map-append}
 use native.Mathlib.Omega.{arith}
-use native.Mathlib.Numerals.{add-one}
 use lib.ListN.{length, take, length-map}
 use lib.Seq.{take-suc, take-length, length-take-le}
 use lib.Dec.{eqb}
 use Rattle.verdict.specs.File.{byteAt}
-use Rattle.verdict.specs.Output.{tabulate, join}
+use Rattle.verdict.specs.Output.{tabulate}
 use Rattle.verdict.proofs.Elements.{map-then}
 use Rattle.verdict.proofs.Lists.{map-tabulate}
 use Rattle.wire.specs.declared.Drive.{Drive}

@@ -1,6 +1,6 @@
 -- What a run's log and board say, in the document's words.
-use Prim.Native.Nat.{ℕ, zero, suc, _+_, _*_, _/_, _%_, _^_, _≤_, _<_}
-use mathlib.Core.Path.{_≡_, refl, sym, ap, ap₂, _∙_}
+use Prim.Native.Nat.{ℕ, suc, _+_, _*_, _/_, _%_, _^_, _≤_, _<_}
+use mathlib.Core.Path.{_≡_, refl, sym, ap, _∙_}
 use mathlib.Core.Bool.{Bool, true, false, _&&_, _||_, or-false}
 use mathlib.Core.List.{List, [], _∷_, _++_, map, map-append}
 use native.Mathlib.Omega.{arith}
@@ -16,9 +16,8 @@ use Rattle.verdict.proofs.Elements.{all-map}
 use Rattle.verdict.proofs.Lists.{length-pieces, getD-pieces, join-append}
 use Rattle.wire.specs.declared.Drive.{Drive}
 use Rattle.wire.specs.declared.Drive.the-variants.{Released, Driven}
-use Rattle.wire.specs.Wire.{Party, asBit, stationDrive, levelOf, drivers, drivesOf, clocked, eventsAfter, runs, driven}
+use Rattle.wire.specs.Wire.{Party, asBit, stationDrive, levelOf, drivers, clocked, eventsAfter, runs, driven}
 use Rattle.wire.proofs.Runs.{runs-append, driven-append}
-use Rattle.phy.specs.declared.Phy.{Phy}
 use Rattle.phy.specs.Abilities.{one}
 use Rattle.phy.specs.Words.{setBit}
 use Rattle.phy.specs.Typed.{Typed}
