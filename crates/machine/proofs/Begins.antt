@@ -1,14 +1,12 @@
 -- How a run that is not refused begins, goes through a clock, and ends.
-use Prim.Native.Nat.{ℕ, zero, suc, _+_, _*_, _-_, _≤_, _<_}
+use Prim.Native.Nat.{ℕ, suc, _+_, _*_, _-_, _<_}
 use mathlib.Core.Path.{_≡_, refl, sym, ap, ap₂, subst, _∙_}
-use mathlib.Core.Bool.{Bool, true, false}
-use mathlib.Core.List.{List, [], _∷_, _++_, map}
+use mathlib.Core.List.{List, [], _∷_, map}
 use native.Mathlib.Omega.{arith}
 use native.Mathlib.Numerals.{add-one}
 use borrow.Rule.Slice.PartMut.{putMid}
-use lib.ListN.{length, getD, take, drop, length-map}
+use lib.ListN.{length, getD, take, length-map}
 use lib.Seq.{take-length, getD-take, length-take-le}
-use lib.Dec.{ltb}
 use borrow.Author.Tests.{ltb-false}
 use Rattle.verdict.specs.File.{byteAt, records}
 use Rattle.verdict.specs.Lists.{All}
@@ -16,10 +14,9 @@ use Rattle.verdict.specs.Output.{tabulate, join, written}
 use Rattle.verdict.proofs.Elements.{map-then}
 use Rattle.verdict.proofs.Outputs.{pieced, length-pieced, piece-next, pieced-all}
 use Rattle.wire.specs.declared.Drive.{Drive}
-use Rattle.wire.specs.Wire.{stationDrive, levelOf, drivesOf, runs, driven}
+use Rattle.wire.specs.Wire.{stationDrive, levelOf, runs, driven}
 use Rattle.phy.specs.declared.Phy.{Phy}
 use Rattle.phy.specs.Sound.{nowhere}
-use Rattle.phy.specs.Clock.{drives}
 use Rattle.phy.proofs.Every.{neither}
 use Rattle.board.specs.declared.Board.{Board}
 use Rattle.board.specs.Check.{placeAt}
@@ -32,14 +29,14 @@ use Rattle.machine.specs.Outcome.{physOf, withPhys}
 use Rattle.machine.specs.Events.{happens}
 use Rattle.machine.specs.Acts.{happenedFrom}
 use Rattle.machine.specs.Log.{clockRecord}
-use Rattle.machine.specs.Run.{addressesOf, partyWith, stationDrives, atStart, physAfterRun, logOfRun}
+use Rattle.machine.specs.Run.{addressesOf, partyWith, stationDrives, atStart, physAfterRun}
 use Rattle.machine.specs.Lines.{lineOf, heardStation, heardFrom, recordOf, joinedBoard}
 use Rattle.machine.specs.Clocks.{Clocked}
 use Rattle.machine.proofs.Places.{with-own, phys-of-with, with-with}
-use Rattle.machine.proofs.Happenings.{Split, Leaves, split-start, one-clock}
+use Rattle.machine.proofs.Happenings.{Leaves, split-start, one-clock}
 use Rattle.machine.proofs.Quiet.{heardOf, heard-level, heard-record}
-use Rattle.machine.proofs.Lockstep.{physAfter, stationIn, drivesIn, addresses-stay, length-stays, happens-address, log-by-clock}
-use Rattle.machine.proofs.Stands.{piece, phys, Shows, whole, joined, Stands, length-is}
+use Rattle.machine.proofs.Lockstep.{stationIn, drivesIn, addresses-stay, happens-address, log-by-clock}
+use Rattle.machine.proofs.Stands.{piece, phys, whole, joined, Stands, length-is}
 use Rattle.machine.proofs.Accepts.{Goes}
 
 -- what holds at every place holds of every element

@@ -14,3 +14,4 @@ pub mod Quiet
 pub mod Stands
 pub mod Accepts
 pub mod Begins
+pub mod RunLaws

@@ -1,11 +1,10 @@
 -- What a line tells of its PHY: what it drives, and all of a clock in which it does not act.
 use Prim.Native.Nat.{ℕ, zero, suc, _*_, _%_, _^_, _≤_, _<_}
-use mathlib.Core.Path.{_≡_, refl, sym, ap, _∙_}
+use mathlib.Core.Path.{_≡_, refl, ap, _∙_}
 use mathlib.Core.Bool.{Bool, true, false, cond}
 use native.Mathlib.Omega.{arith}
-use borrow.Author.Tests.{eq-eqb, ne-eqb, le-leb, lt-leb}
-use Rattle.wire.specs.declared.Drive.{Drive}
-use Rattle.wire.specs.declared.Drive.the-variants.{Released, Driven}
+use borrow.Author.Tests.{ne-eqb, le-leb, lt-leb}
+use Rattle.wire.specs.declared.Drive.the-variants.{Released}
 use Rattle.wire.specs.declared.Follower.{Follower}
 use Rattle.wire.specs.declared.Follower.the-variants.{Hunting, Inside}
 use native.Mathlib.Nat.{mod-eq-of-lt, one-mul}

@@ -1,15 +1,14 @@
 -- The PHYs of a run after k of its clocks, and what each clock of the log says of them.
 use Prim.Native.Nat.{ℕ, zero, suc, _+_, _%_, _^_, _≤_, _<_}
-use mathlib.Core.Path.{_≡_, refl, sym, ap, ap₂, _∙_}
+use mathlib.Core.Path.{_≡_, refl, sym, ap, _∙_}
 use mathlib.Core.Bool.{Bool, true, false, cond}
 use mathlib.Core.List.{List, [], _∷_, _++_, map, map-append}
 use native.Mathlib.Omega.{arith}
-use native.Mathlib.Numerals.{add-one}
 use lib.ListN.{length, take, length-map}
 use lib.Seq.{take-suc, take-length, length-take-le}
 use lib.Dec.{eqb}
-use Rattle.verdict.specs.File.{byteAt, records}
-use Rattle.verdict.specs.Output.{tabulate, join}
+use Rattle.verdict.specs.File.{byteAt}
+use Rattle.verdict.specs.Output.{tabulate}
 use Rattle.verdict.proofs.Elements.{map-then}
 use Rattle.verdict.proofs.Lists.{map-tabulate}
 use Rattle.wire.specs.declared.Drive.{Drive}
@@ -19,15 +18,14 @@ use Rattle.wire.specs.Follower.{oneMore, headerSeen}
 use Rattle.wire.specs.Wire.{Party, stationDrive, drivesOf, clocked, eventsAfter, runs, driven}
 use Rattle.wire.proofs.Runs.{runs-append, driven-append}
 use Rattle.phy.specs.declared.Phy.{Phy}
-use Rattle.phy.specs.Events.{event}
 use Rattle.phy.specs.Clock.{answers, word, afterHeader, atHeader, atFrame, acts, actsIn, clock}
 use Rattle.phy.specs.Fields.{withCaptured}
-use Rattle.phy.proofs.Effects.{event-effect, afterHeader-effect, afterFrame-effect}
+use Rattle.phy.proofs.Effects.{afterHeader-effect, afterFrame-effect}
 use Rattle.phy.proofs.Keeping.{keeps-address}
-use Rattle.board.specs.Events.{eventRecord, eventCode}
-use Rattle.machine.specs.Events.{isFor, happensFrom, happens}
+use Rattle.machine.specs.Events.{happens}
 use Rattle.machine.specs.Log.{clockRecord}
 use Rattle.machine.specs.Run.{addressesOf, partyWith, stationDrives}
+use Rattle.machine.proofs.HappensEffect.{happens-effect}
 
 -- what every clock and every event keeps of a party, a run keeps of all
 pub runs-keep : {P X : Type 0} (party : Party P) (of : P → X) → ((level : Bool) (p : P) → of (party .samples level p) ≡ of p) → ((c : ℕ) (p : P) → of (party .happens c p) ≡ of p) → (ds : List Drive) (c : ℕ) (ps : List P) → map of (runs party ds c ps) ≡ map of ps
@@ -57,17 +55,8 @@ clock-address level phy = go (phy .follower)
     go (Hunting ones) = refl
     go (Inside seen bits) = acts-address seen (oneMore bits level) phy
 
-happens-address-from : (events : List ℕ) (k left c : ℕ) (phy : Phy) → happensFrom events k left c phy .address ≡ phy .address
-unfolding happensFrom
-happens-address-from events k zero c phy = refl
-happens-address-from events k (suc left) c phy = happens-address-from events (suc k) left c _ ∙ go (isFor events k c phy)
-  where
-    go : (t : Bool) → cond t (event (eventCode events k) phy) phy .address ≡ phy .address
-    go true = keeps-address (event-effect (eventCode events k)) phy
-    go false = refl
-
 pub happens-address : (events : List ℕ) (c : ℕ) (phy : Phy) → happens events c phy .address ≡ phy .address
-happens-address events c phy = happens-address-from events 0 (records eventRecord events) c phy
+happens-address events c phy = keeps-address (happens-effect events c) phy
 
 module _ (events steps : List ℕ) (start : List Phy) where
   -- the PHYs after k clocks and the events after them

@@ -1,12 +1,11 @@
 -- A clock by the lines alone: what is heard of them is what the PHYs drive, and where none acts they follow by themselves.
-use Prim.Native.Nat.{ℕ, zero, suc, _+_, _*_, _/_, _%_, _^_, _≤_, _<_}
+use Prim.Native.Nat.{ℕ, zero, suc, _+_, _*_, _/_, _%_, _^_}
 use mathlib.Core.Path.{_≡_, refl, sym, ap, ap₂, _∙_}
 use mathlib.Core.Bool.{Bool, true, false, _&&_, _||_, cond, and-true, and-assoc}
 use mathlib.Core.List.{List, [], _∷_, map}
 use native.Mathlib.Omega.{arith}
 use lib.Dec.{leb, eqb}
 use borrow.Author.Tests.{le-leb, eqb-true}
-use Rattle.verdict.specs.Lists.{All}
 use Rattle.verdict.proofs.Elements.{map-then}
 use Rattle.wire.specs.declared.Drive.{Drive}
 use Rattle.wire.specs.declared.Drive.the-variants.{Released, Driven}
@@ -14,16 +13,15 @@ use Rattle.wire.specs.declared.Follower.{Follower}
 use Rattle.wire.specs.declared.Follower.the-variants.{Hunting, Inside}
 use Rattle.wire.specs.declared.Header.{Header}
 use Rattle.wire.specs.Follower.{oneMore, follow, headerOf, headerSeen}
-use Rattle.wire.specs.Wire.{asBit, levelOf, drivers}
+use Rattle.wire.specs.Wire.{levelOf, drivers}
 use Rattle.phy.specs.declared.Phy.{Phy}
 use Rattle.phy.specs.Fields.{withLine, withFollower, withCaptured}
 use Rattle.phy.specs.Registers.{implements}
 use Rattle.phy.specs.Clock.{enough, answers, stores, drivesIn, drives, afterFrame, atHeader, acts, clock}
 use Rattle.phy.specs.Clock.{actsIn as Phy·actsIn}
-use Rattle.phy.proofs.Every.{neither}
 use Rattle.machine.specs.declared.line.Line.{Line}
 use Rattle.machine.specs.declared.hear.Heard.{Heard}
-use Rattle.machine.specs.Log.{isDriving, marked, maskFrom, fourBytes, flagsOf, clockRecord}
+use Rattle.machine.specs.Log.{isDriving, marked, maskFrom, clockRecord}
 use Rattle.machine.specs.Run.{addressesOf}
 use Rattle.machine.specs.Lines.{lineOf, lineAnswers, lineDrivesIn, lineDrives, isOwn, actsIn, lineActs, captures, lineFollows, onto, heardStation, hearsDrive, hears, heardFrom, recordOf}
 

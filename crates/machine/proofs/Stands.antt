@@ -5,18 +5,16 @@ use mathlib.Core.Bool.{Bool, true, false, _&&_}
 use mathlib.Core.List.{List, [], _∷_, _++_, map, append-nil}
 use native.Mathlib.Omega.{arith}
 use lib.ListN.{length, getD, set, take, drop, length-map, List·getD-map, drop-of-length-le}
-use lib.Seq.{take-all, take-length, getD-take, drop-at, take-set-lt, drop-set-lt, map-set-same}
+use lib.Seq.{take-length, getD-take, drop-at, take-set-lt, drop-set-lt, map-set-same}
 use lib.Dec.{ltb, leb}
 use borrow.Author.Tests.{ltb-true, ltb-false, leb-false}
 use Rattle.verdict.specs.File.{records}
-use Rattle.verdict.specs.Output.{tabulate, join}
-use Rattle.verdict.proofs.Elements.{map-stays}
 use Rattle.verdict.proofs.Lists.{tabulate-of}
 use Rattle.verdict.proofs.Outputs.{pieced}
-use Rattle.wire.specs.Wire.{levelOf, runs}
+use Rattle.wire.specs.Wire.{levelOf}
 use Rattle.phy.specs.declared.Phy.{Phy}
 use Rattle.phy.specs.Sound.{nowhere}
-use Rattle.phy.specs.Clock.{drives, clock}
+use Rattle.phy.specs.Clock.{clock}
 use Rattle.board.specs.declared.Board.{Board}
 use Rattle.board.specs.Events.{eventRecord, eventClock}
 use Rattle.machine.specs.declared.line.Line.{Line}
@@ -27,11 +25,11 @@ use Rattle.machine.specs.Acts.{happenedFrom}
 use Rattle.machine.specs.Log.{clockRecord}
 use Rattle.machine.specs.Run.{addressesOf}
 use Rattle.machine.specs.Lines.{lineOf, noLine, onto, lineActs, lineFollows, joinedBoard, isDue}
-use Rattle.machine.proofs.Places.{replaced, phys-of-with, with-with, with-then}
+use Rattle.machine.proofs.Places.{phys-of-with, with-then}
 use Rattle.machine.proofs.Happenings.{Rising, Split, Leaves, happened-stop, happened-finish, one-clock}
 use Rattle.machine.proofs.Turns.{within, rejoined}
 use Rattle.machine.proofs.Quiet.{bare, put-back, quiet-line, quiet-bare}
-use Rattle.machine.proofs.Lockstep.{physAfter, stationIn, drivesIn, length-stays, phys-next}
+use Rattle.machine.proofs.Lockstep.{physAfter, drivesIn, length-stays, phys-next}
 
 take-map : {A B : Type 0} (f : A → B) (n : ℕ) (xs : List A) → take n (map f xs) ≡ map f (take n xs)
 take-map f zero xs = refl

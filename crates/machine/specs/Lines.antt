@@ -104,14 +104,7 @@ heardStation (Driven level) =
 
 -- and of one PHY more, by its address and by what it drives
 unfoldable pub hearsDrive : ℕ → Drive → Heard → Heard
-hearsDrive address Released heard =
-    record {
-      level = heard .level;
-      station = heard .station;
-      some = heard .some;
-      several = heard .several;
-      mask = heard .mask;
-    }
+hearsDrive address Released heard = heard
 hearsDrive address (Driven level) heard =
     record {
       level = heard .level && level;

@@ -109,35 +109,20 @@ pub fn run(board: Board, steps: &[u8], events: &[u8], log: &mut [u8]) -> Outcome
 {
     let sound = check(board);
     let Verdict::Done(_) = sound else {
-        return Outcome {
-            verdict: sound,
-            board: board,
-        };
+        return Outcome::of(sound, board);
     };
     let stepped = check_steps(steps);
     let Verdict::Done(count) = stepped else {
-        return Outcome {
-            verdict: stepped,
-            board: board,
-        };
+        return Outcome::of(stepped, board);
     };
     let happening = check_events(board, events, count);
     let Verdict::Done(_) = happening else {
-        return Outcome {
-            verdict: happening,
-            board: board,
-        };
+        return Outcome::of(happening, board);
     };
     let size = count * Frame::LOG_RECORD;
     if log.len() < size {
-        return Outcome {
-            verdict: Verdict::Refused(Verdict::NO_ROOM, 0),
-            board: board,
-        };
+        return Outcome::of(Verdict::Refused(Verdict::NO_ROOM, 0), board);
     }
     let after = clock_by_clock(board, steps, events, log);
-    Outcome {
-        verdict: Verdict::Done(size),
-        board: after,
-    }
+    Outcome::of(Verdict::Done(size), after)
 }

@@ -7,7 +7,7 @@ use lib.ListN.{length, getD, take, drop, drop-of-length-le}
 use lib.Seq.{length-take-le, getD-take}
 use borrow.Author.Needs.{needs}
 use Rattle.machine.specs.declared.line.Line.{Line}
-use Rattle.machine.specs.Lines.{noLine, heardStation, hears, heardFrom}
+use Rattle.machine.specs.Lines.{noLine, heardFrom}
 use Rattle.machine.proofs.Turns.{all-at, heard-next}
 use Rattle.machine.proofs.hear.hear.Statement.{statement}
 use Rattle.machine.proofs.hear.hear.Tie as tie

@@ -1,3 +1,4 @@
+-- Steps 0 and 1 drive, any other releases.
 use Rattle.machine.proofs.Lines.{station-released}
 use borrow.Author.Needs.{needs}
 use Rattle.machine.proofs.hear.station_drive.Statement.{statement}

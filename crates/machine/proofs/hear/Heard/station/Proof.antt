@@ -1,3 +1,4 @@
+-- The station drives alone, or releases.
 use borrow.Author.Needs.{needs}
 use Rattle.machine.proofs.hear.Heard.station.Statement.{statement}
 use Rattle.machine.proofs.hear.Heard.station.Tie as tie

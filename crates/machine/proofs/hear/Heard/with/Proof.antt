@@ -1,8 +1,7 @@
 -- What the line drives decides: a PHY that drives joins the level, the count and the mask.
 use Prim.Native.Nat.{ℕ}
-use mathlib.Core.Path.{_≡_, sym, ap, _∙_}
+use mathlib.Core.Path.{sym, ap, _∙_}
 use mathlib.Core.Bool.{true, _&&_, _||_}
-use Rattle.machine.specs.declared.hear.Heard.{Heard}
 use Rattle.machine.specs.Lines.{hearsDrive}
 use Rattle.machine.proofs.Lines.{mark-set}
 use borrow.Author.Needs.{needs}

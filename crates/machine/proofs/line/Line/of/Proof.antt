@@ -1,3 +1,4 @@
+-- A PHY's line is five of its fields.
 use borrow.Author.Needs.{needs}
 use Rattle.machine.proofs.line.Line.of.Statement.{statement}
 use Rattle.machine.proofs.line.Line.of.Tie as tie

@@ -1,0 +1,182 @@
+-- What a run's log and board say, in the document's words.
+use Prim.Native.Nat.{ℕ, suc, _+_, _*_, _/_, _%_, _^_, _≤_, _<_}
+use mathlib.Core.Path.{_≡_, refl, sym, ap, _∙_}
+use mathlib.Core.Bool.{Bool, true, false, _&&_, _||_, or-false}
+use mathlib.Core.List.{List, [], _∷_, _++_, map, map-append}
+use native.Mathlib.Omega.{arith}
+use native.Mathlib.Decide.{ℕ-discrete}
+use native.Mathlib.Nat.{zero-div}
+use lib.ListN.{length, getD, length-map}
+use lib.Dec.{eqb, leb}
+use borrow.Author.Tests.{eq-eqb, ne-eqb, le-leb, leb-true}
+use Rattle.verdict.specs.Bits.{bit}
+use Rattle.verdict.specs.Lists.{All}
+use Rattle.verdict.specs.Output.{tabulate, join}
+use Rattle.verdict.proofs.Elements.{all-map}
+use Rattle.verdict.proofs.Lists.{length-pieces, getD-pieces, join-append}
+use Rattle.wire.specs.declared.Drive.{Drive}
+use Rattle.wire.specs.declared.Drive.the-variants.{Released, Driven}
+use Rattle.wire.specs.Wire.{Party, asBit, stationDrive, levelOf, drivers, clocked, eventsAfter, runs, driven}
+use Rattle.wire.proofs.Runs.{runs-append, driven-append}
+use Rattle.phy.specs.Abilities.{one}
+use Rattle.phy.specs.Words.{setBit}
+use Rattle.phy.specs.Typed.{Typed}
+use Rattle.phy.proofs.Words.{set-same, set-other}
+use Rattle.phy.proofs.Keeping.{keeps-typed, clock-typed}
+use Rattle.board.specs.declared.Board.{Board}
+use Rattle.machine.specs.declared.Outcome.{Outcome}
+use Rattle.machine.specs.Outcome.{physOf}
+use Rattle.machine.specs.Events.{happens}
+use Rattle.machine.specs.Log.{isDriving, flagsOf, maskFrom, clockRecord}
+use Rattle.machine.specs.Run.{addressesOf, partyWith, stationDrives, atStart, physAfterRun, logOfRun, Ran}
+use Rattle.machine.proofs.Lockstep.{drivesIn, log-by-clock}
+use Rattle.machine.proofs.Laws.{hands-back-unique}
+use Rattle.machine.proofs.HappensEffect.{happens-effect}
+
+-- two results that meet the promise of `run` are equal, as are the logs
+pub run-unique : (board : Board) (steps events log : List ℕ) {r s : Outcome} {log₁ log₂ : List ℕ} → Ran board steps events log r log₁ → Ran board steps events log s log₂ → (r ≡ s) × (log₁ ≡ log₂)
+run-unique board steps events log p q = hands-back-unique p q
+
+-- The flags: "1 level, 2 station drives, 4 two or more parties drive"
+three-flags : (a b c : Bool) → (bit 0 (asBit a * 1 + asBit b * 2 + asBit c * 4) ≡ asBit a) × (bit 1 (asBit a * 1 + asBit b * 2 + asBit c * 4) ≡ asBit b) × (bit 2 (asBit a * 1 + asBit b * 2 + asBit c * 4) ≡ asBit c)
+three-flags false false false = (refl, refl, refl)
+three-flags false false true = (refl, refl, refl)
+three-flags false true false = (refl, refl, refl)
+three-flags false true true = (refl, refl, refl)
+three-flags true false false = (refl, refl, refl)
+three-flags true false true = (refl, refl, refl)
+three-flags true true false = (refl, refl, refl)
+three-flags true true true = (refl, refl, refl)
+
+module _ (station : Drive) (drives : List Drive) where
+  pub level-flag : bit 0 (flagsOf station drives) ≡ asBit (levelOf (station ∷ drives))
+  level-flag = three-flags (levelOf (station ∷ drives)) (isDriving station) (leb 2 (drivers (station ∷ drives))) .0
+
+  pub station-flag : bit 1 (flagsOf station drives) ≡ asBit (isDriving station)
+  station-flag = three-flags (levelOf (station ∷ drives)) (isDriving station) (leb 2 (drivers (station ∷ drives))) .1
+
+  contention-flag : bit 2 (flagsOf station drives) ≡ asBit (leb 2 (drivers (station ∷ drives)))
+  contention-flag = three-flags (levelOf (station ∷ drives)) (isDriving station) (leb 2 (drivers (station ∷ drives))) .2
+
+  -- flag 4 exactly if two or more parties drive
+  pub contended : 2 ≤ drivers (station ∷ drives) → bit 2 (flagsOf station drives) ≡ 1
+  contended many = contention-flag ∙ rw (le-leb 2 (drivers (station ∷ drives)) many)
+
+  pub only-contended : bit 2 (flagsOf station drives) ≡ 1 → 2 ≤ drivers (station ∷ drives)
+  only-contended flag = leb-true 2 (drivers (station ∷ drives)) (go (leb 2 (drivers (station ∷ drives))) (sym contention-flag ∙ flag))
+    where
+      go : (b : Bool) → asBit b ≡ 1 → b ≡ true
+      go true e = refl
+      go false e = absurd (omega arith)
+
+-- The mask: "bit a set when the PHY at address a drives"
+pub drivesAt : ℕ → List ℕ → List Drive → Bool
+drivesAt a [] drives = false
+drivesAt a (address ∷ addresses) [] = false
+drivesAt a (address ∷ addresses) (drive ∷ drives) = (eqb address a && isDriving drive) || drivesAt a addresses drives
+
+set-bit : (a address mask : ℕ) → one a (setBit address mask) ≡ one a mask || eqb address a
+set-bit a address mask = go (ℕ-discrete address a)
+  where
+    or-true : (b : Bool) → true ≡ b || true
+    or-true true = refl
+    or-true false = refl
+
+    go : Dec (address ≡ a) → one a (setBit address mask) ≡ one a mask || eqb address a
+    go (yes e) = rw (← e, set-same address mask, eq-eqb address address refl) (or-true (one address mask))
+    go (no n) = rw (set-other address a mask (λ e. n (sym e)), ne-eqb address a n) (sym (or-false (one a mask)))
+
+or-assoc : (a b c : Bool) → (a || b) || c ≡ a || (b || c)
+or-assoc true b c = refl
+or-assoc false b c = refl
+
+pub mask-from-bit : (a mask : ℕ) (addresses : List ℕ) (drives : List Drive) → one a (maskFrom mask addresses drives) ≡ one a mask || drivesAt a addresses drives
+unfolding maskFrom drivesAt
+mask-from-bit a mask [] drives = sym (or-false (one a mask))
+mask-from-bit a mask (address ∷ addresses) [] = sym (or-false (one a mask))
+mask-from-bit a mask (address ∷ addresses) (Released ∷ drives) =
+    mask-from-bit a mask addresses drives ∙ ap (λ b. one a mask || (b || drivesAt a addresses drives)) (sym (none (eqb address a)))
+  where
+    none : (b : Bool) → b && false ≡ false
+    none true = refl
+    none false = refl
+mask-from-bit a mask (address ∷ addresses) (Driven level ∷ drives) =
+    mask-from-bit a (setBit address mask) addresses drives
+    ∙ ap (λ b. b || drivesAt a addresses drives) (set-bit a address mask)
+    ∙ or-assoc (one a mask) (eqb address a) (drivesAt a addresses drives)
+    ∙ ap (λ b. one a mask || (b || drivesAt a addresses drives)) (sym (all (eqb address a)))
+  where
+    all : (b : Bool) → b && true ≡ b
+    all true = refl
+    all false = refl
+
+-- bit a is one exactly if a PHY at address a drives; so it is zero where no PHY has the address
+pub mask-bit : (a : ℕ) (addresses : List ℕ) (drives : List Drive) → one a (maskFrom 0 addresses drives) ≡ drivesAt a addresses drives
+mask-bit a addresses drives =
+    let none : 0 / 2 ^ a ≡ 0 = zero-div (2 ^ a) in
+    let empty : one a 0 ≡ false = ap (λ n. eqb (n % 2) 1) none in
+    mask-from-bit a 0 addresses drives ∙ ap (λ b. b || drivesAt a addresses drives) empty
+
+-- The log: "5 bytes per clock"
+module _ (board : Board) (steps events : List ℕ) where
+  abbrev recordIn : ℕ → List ℕ
+  recordIn k = clockRecord (addressesOf (physOf board)) (drivesIn events steps (atStart board events) k)
+
+  log-pieces : logOfRun board steps events ≡ join (tabulate (length steps) recordIn)
+  log-pieces = ap join (log-by-clock events steps (atStart board events) (addressesOf (physOf board)))
+
+  pub log-length : length (logOfRun board steps events) ≡ length steps * 5
+  unfolding clockRecord
+  log-length = ap length log-pieces ∙ length-pieces 5 (length steps) recordIn (λ k. refl)
+
+  -- byte i of the record of clock k + 1: what the parties do by their state before it
+  pub log-byte : (k i : ℕ) → k < length steps → i < 5 → getD (logOfRun board steps events) (k * 5 + i) 0 ≡ getD (recordIn k) i 0
+  unfolding clockRecord
+  log-byte k i h l = ap (λ xs. getD xs (k * 5 + i) 0) log-pieces ∙ getD-pieces 5 (length steps) recordIn (λ k. refl) 0 k i h l
+
+-- an empty run: only the events of clock 0 act
+module _ (board : Board) (events : List ℕ) where
+  pub empty-run : physAfterRun board [] events ≡ atStart board events
+  unfolding runs
+  empty-run = refl
+
+  pub empty-log : logOfRun board [] events ≡ []
+  unfolding driven join
+  empty-log = refl
+
+  -- a run of steps a ++ b is a run of a, then one of b from there
+  module _ (a b : List ℕ) where
+    two-parts : stationDrives (a ++ b) ≡ stationDrives a ++ stationDrives b
+    two-parts = map-append stationDrive a b
+
+    gone : length a ≡ 0 + length (stationDrives a)
+    gone = omega (arith, length-map a stationDrive)
+
+    pub run-append : physAfterRun board (a ++ b) events ≡ runs (partyWith events) (stationDrives b) (length a) (physAfterRun board a events)
+    run-append =
+        ap (λ ds. runs (partyWith events) ds 0 (atStart board events)) two-parts
+        ∙ runs-append (partyWith events) (stationDrives a) (stationDrives b) 0 (length a) (atStart board events) gone
+
+    pub log-append : logOfRun board (a ++ b) events ≡ logOfRun board a events ++ join (map (clockRecord (addressesOf (physOf board))) (driven (partyWith events) (stationDrives b) (length a) (physAfterRun board a events)))
+    log-append =
+        let rec = clockRecord (addressesOf (physOf board)) in
+        let first = driven (partyWith events) (stationDrives a) 0 (atStart board events) in
+        let rest = driven (partyWith events) (stationDrives b) (length a) (physAfterRun board a events) in
+        ap (λ ds. join (map rec (driven (partyWith events) ds 0 (atStart board events)))) two-parts
+        ∙ ap (λ xss. join (map rec xss)) (driven-append (partyWith events) (stationDrives a) (stationDrives b) 0 (length a) (atStart board events) gone)
+        ∙ ap join (map-append rec first rest)
+        ∙ join-append (map rec first) (map rec rest)
+
+-- what every clock and every event keeps, a run keeps
+pub runs-keep-all : {P : Type 0} (party : Party P) (Q : P → Type 0) → ((level : Bool) (p : P) → Q p → Q (party .samples level p)) → ((c : ℕ) (p : P) → Q p → Q (party .happens c p)) → (ds : List Drive) (c : ℕ) (ps : List P) → All Q ps → All Q (runs party ds c ps)
+unfolding runs
+runs-keep-all party Q clocks events [] c ps all = all
+runs-keep-all party Q clocks events (d ∷ ds) c ps all =
+    runs-keep-all party Q clocks events ds (suc c) (eventsAfter party (suc c) (clocked party d ps))
+    (all-map Q Q (party .happens (suc c)) (clocked party d ps) (events (suc c)) (all-map Q Q (party .samples _) ps (clocks _) all))
+
+-- every field stays within its type
+pub run-typed : (board : Board) (steps events : List ℕ) → All Typed (physOf board) → All Typed (physAfterRun board steps events)
+run-typed board steps events typed =
+    runs-keep-all (partyWith events) Typed clock-typed (λ c. keeps-typed (happens-effect events c)) (stationDrives steps) 0 (atStart board events)
+    (all-map Typed Typed (happens events 0) (physOf board) (keeps-typed (happens-effect events 0)) typed)
