@@ -31,14 +31,20 @@ same-is (x ∷ xs) (y ∷ ys) e =
 pub right-holds : (r : Row) → right r ≡ true → Holds r
 right-holds r e =
     let split = both _ _ e in
-    let machines = both _ _ (split .1) in
-    record { accepted = eqb-true _ 0 (split .0); plain = same-is _ _ (machines .0); wire = same-is _ _ (machines .1) }
+    let plain = both _ _ (split .1) in
+    let wire = both _ _ (plain .1) in
+    record {
+      accepted = eqb-true _ 0 (split .0);
+      plain = same-is _ _ (plain .0);
+      wire = same-is _ _ (wire .0);
+      frames = same-is _ _ (wire .1);
+    }
 
 all-hold : (rows : List Row) → allRight rows ≡ true → All Holds rows
 unfolding allRight
 all-hold [] e = tt
 all-hold (r ∷ rows) e = let split = both (right r) (allRight rows) e in (right-holds r (split .0), all-hold rows (split .1))
 
--- cases 1 to 11, on the plain machine and on the wire
+-- cases 1 to 12, on the plain machine and on the wire
 pub bench-cases : All Holds table
 bench-cases = all-hold table table-right

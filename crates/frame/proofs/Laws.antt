@@ -9,7 +9,7 @@ use denote.Ref.{RefT, now, ptr}
 use lib.ListN.{length, getD}
 use Rattle.verdict.specs.declared.Verdict.{Verdict}
 use Rattle.verdict.specs.declared.Verdict.the-variants.{Refused}
-use Rattle.verdict.specs.Bits.{shiftIn, bits, valueOf}
+use Rattle.verdict.specs.Bits.{valueOf}
 use Rattle.verdict.specs.File.{records}
 use Rattle.verdict.specs.Output.{tabulate, join}
 use Rattle.verdict.proofs.Checks.{WhyRefused, why-refused}
@@ -18,15 +18,10 @@ use Rattle.verdict.proofs.Outputs.{writes-unique}
 use Rattle.frame.specs.declared.list.Transaction.{Transaction}
 use Rattle.frame.specs.Frame.{clocks}
 use Rattle.frame.specs.List.{listRecord, mostTransactions, isRead, transactionAt, recordFault, listVerdict, transactions}
-use Rattle.frame.specs.Steps.{stepsOf, stepAt, frameWord, translation, Translated}
+use Rattle.frame.specs.Steps.{stepsOf, stepAt, translation, Translated}
 use Rattle.frame.specs.Log.{levelAt, levels, logPart, PartOf}
 use Rattle.frame.specs.Answers.{answered, sent, answerTo, readAnswer, turnaroundIn, wordIn, answerIn, answersIn, Decoded}
 use Rattle.frame.proofs.Positions.{length-steps}
-
--- "12 write of 1200 to PHY 3 register 0: frame word 51821200"
-pub case-12 : frameWord (record { op = 1; address = 3; register = 0; «data» = 0x1200 }) ≡ 0x51821200
-unfolding stepsOf join bits shiftIn
-case-12 = refl
 
 -- "A refusal returns its number and the record's index": a list is refused for its length, its count, or its first record at fault
 pub list-refused : (list : List ℕ) (c j : ℕ) → listVerdict list ≡ Refused c j → WhyRefused listRecord mostTransactions (recordFault list) list c j
