@@ -16,3 +16,4 @@ pub mod Phys
 pub mod Cases
 pub mod Boards
 pub mod Demand3
+pub mod Sending

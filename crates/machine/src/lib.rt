@@ -22,7 +22,7 @@ pub struct Outcome {
 }
 
 impl Outcome {
-    fn of(verdict: Verdict, board: Board) -> Outcome
+    pub fn of(verdict: Verdict, board: Board) -> Outcome
         ensures { λ r. ⌜ r ≡ outcomeOf verdict board ⌝ }
     {
         Outcome { verdict, board }
