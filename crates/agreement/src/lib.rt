@@ -3,26 +3,24 @@
 use board::Board;
 use board::check;
 use frame::Frame;
-use frame::Transaction;
 use frame::decode;
 use frame::translate;
 use machine::Outcome;
+use machine::Steps;
 use machine::run;
 use verdict::Verdict;
 ghost use mathlib.Core.Path.{_≡_};
 ghost use lib.ListN.{length};
 ghost use Rattle.agreement.specs.Exchange.{Ready, Exchanged};
 
-// As many steps as the longest list has, and the bytes of their log.
-const STEPS: usize = Transaction::MOST * Frame::CLOCKS;
-
-const LOG: usize = STEPS * Frame::LOG_RECORD;
-
-fn room_for_steps() -> [u8; STEPS]
+// Room for the steps of the longest list, and for their log.
+fn room_for_steps() -> [u8; Steps::MOST]
     ensures { λ r. ⌜ 4160 ≡ length r ⌝ }
 {
-    [0; STEPS]
+    [0; Steps::MOST]
 }
+
+const LOG: usize = Steps::MOST * Frame::LOG_RECORD;
 
 fn room_for_log() -> [u8; LOG]
     ensures { λ r. ⌜ 20800 ≡ length r ⌝ }

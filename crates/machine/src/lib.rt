@@ -9,6 +9,7 @@ mod transact;
 mod without_wire;
 
 use board::Board;
+pub use clocks::Steps;
 pub use clocks::run;
 use verdict::Verdict;
 pub use without_wire::plain;
