@@ -17,3 +17,4 @@ pub mod Cases
 pub mod Boards
 pub mod Demand3
 pub mod Sending
+pub mod Exchanges

@@ -90,19 +90,23 @@ starts result room out m wrote long =
       bytes = bytes;
     }
 
--- an answer that hangs on one check alone
-record DoneBy (v : Verdict) (f : ℕ → ℕ) (m : ℕ) : Type 0 where
-  count : ℕ
-  passes : v ≡ Done count
-  size : f count ≡ m
+-- a chain of checks that is done passed its first, and the rest is done too
+pub record Passes (first : Verdict) (next : ℕ → Verdict) (m : ℕ) : Type 0 where
+  pub count : ℕ
+  pub passes : first ≡ Done count
+  pub rest : next count ≡ Done m
 
-done-by : (v : Verdict) (f : ℕ → ℕ) {m : ℕ} → andThen v (λ n. Done (f n)) ≡ Done m → DoneBy v f m
-done-by (Done n) f e = record { count = n; passes = refl; size = cc }
-done-by (Refused c k) f e = absurd (let z : _≡_ {A = ℕ} 0 1 = cc in omega arith)
+pub done-by : (first : Verdict) (next : ℕ → Verdict) {m : ℕ} → andThen first next ≡ Done m → Passes first next m
+done-by (Done n) next e = record { count = n; passes = refl; rest = e }
+done-by (Refused c k) next e = absurd (let z : _≡_ {A = ℕ} 0 1 = cc in omega arith)
 
-refused-by : (v : Verdict) (f : ℕ → ℕ) {c k : ℕ} → andThen v (λ n. Done (f n)) ≡ Refused c k → v ≡ Refused c k
-refused-by (Done n) f e = absurd (let z : _≡_ {A = ℕ} 0 1 = cc in omega arith)
-refused-by (Refused d j) f e = e
+done-size : {n m : ℕ} → Done n ≡ Done m → n ≡ m
+done-size e = cc
+
+-- where nothing after the first refuses, a refusal is the first's
+refused-by : (first : Verdict) (size : ℕ → ℕ) {c k : ℕ} → andThen first (λ n. Done (size n)) ≡ Refused c k → first ≡ Refused c k
+refused-by (Done n) size e = absurd (let z : _≡_ {A = ℕ} 0 1 = cc in omega arith)
+refused-by (Refused d j) size e = e
 
 -- A list that the checks let through
 module _ (list : List ℕ) (n : ℕ) (accepted : listVerdict list ≡ Done n) where
@@ -148,11 +152,11 @@ module _ (list : List ℕ) {room out : List ℕ} {answer : Verdict} (long : leng
   pub sent : {m : ℕ} → answer ≡ Done m → Sent list out m
   sent {m} e =
       let done = sym (translated .verdict) ∙ e in
-      let by = done-by (listVerdict list) (λ n. n * clocks) (sym (translating-list list room long) ∙ done) in
+      let by = done-by (listVerdict list) _ (sym (translating-list list room long) ∙ done) in
       record {
         count = by .count;
         accepted = by .passes;
-        steps = starts (translation list) room out m (translated .output ∙ rw done) (steps-counted list (by .count) (by .passes) ∙ by .size);
+        steps = starts (translation list) room out m (translated .output ∙ rw done) (steps-counted list (by .count) (by .passes) ∙ done-size (by .rest));
       }
 
   pub not-sent : {c k : ℕ} → answer ≡ Refused c k → listVerdict list ≡ Refused c k
@@ -176,11 +180,11 @@ module _ (before : Board) (list events : List ℕ) {steps : List ℕ} (ready : R
     pub heard : {m : ℕ} → r .verdict ≡ Done m → Heard before list events out (ready .count) m (r .board)
     heard {m} e =
         let done = sym (ran .writes .verdict) ∙ e in
-        let by = done-by happens (λ h. ready .count * clocks * logRecord) (sym on-sound ∙ done) in
+        let by = done-by happens _ (sym on-sound ∙ done) in
         record {
           happenings = by .count;
           happening = by .passes;
-          log = starts (logOfRun before (translation list) events) room out m (ran .writes .output ∙ rw (done, ready .translated)) (log-counted list (ready .count) (ready .accepted) before events ∙ by .size);
+          log = starts (logOfRun before (translation list) events) room out m (ran .writes .output ∙ rw (done, ready .translated)) (log-counted list (ready .count) (ready .accepted) before events ∙ done-size (by .rest));
           board = ran .board ∙ rw (done, ready .translated);
         }
 

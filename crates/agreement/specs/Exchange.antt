@@ -15,6 +15,7 @@ use Rattle.machine.specs.declared.Outcome.{Outcome}
 use Rattle.machine.specs.Outcome.{HandsBack}
 use Rattle.machine.specs.Run.{logOfRun, physAfterRun}
 use Rattle.machine.specs.Plain.{planning}
+use Rattle.agreement.specs.Demand3.{registersOf, linksOf}
 
 -- the answers that the log of the run holds
 abbrev pub answersOfExchange : Board → List ℕ → List ℕ → List Answer
@@ -28,6 +29,14 @@ physAfterExchange board list events = physAfterRun board (translation list) even
 abbrev pub Exchanged : Board → List ℕ → List ℕ → List ℕ → Outcome → List ℕ → Type 0
 Exchanged board list events out r out′ =
     HandsBack (planning board list events out) (join (map answerBytes (answersOfExchange board list events))) (physAfterExchange board list events) board out r out′
+
+-- what `exchange` and `plain` have in common: answer, output, and in every place of the board the registers and the link
+pub record SameAsPlain (exchanged planned : Outcome) (out₁ out₂ : List ℕ) : Type 0 where
+  pub verdict : exchanged .verdict ≡ planned .verdict
+  pub output : out₁ ≡ out₂
+  pub count : exchanged .board .count ≡ planned .board .count
+  pub registers : registersOf (exchanged .board .phys) ≡ registersOf (planned .board .phys)
+  pub links : linksOf (exchanged .board .phys) ≡ linksOf (planned .board .phys)
 
 -- before the first clock: a sound board, an accepted list and its steps
 pub record Ready (board : Board) (list steps : List ℕ) : Type 0 where
