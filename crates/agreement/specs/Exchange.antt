@@ -1,4 +1,4 @@
--- The call `exchange`: a list goes over the wire. Its answers are what the decoder hears in the run of the translated steps, and the board is what that run leaves; it is refused where the plain machine refuses. It takes any sound board: where a PHY is inside a frame its first clocks end that frame, and the wire decides.
+-- The call `exchange`: a list goes over the wire. Its answers are what the decoder hears in the run of the translated steps, and the board is what that run leaves; it is refused where the plain machine refuses. It takes any sound board: where a PHY is inside a frame the run's first clocks end that frame, and the wire decides.
 use Prim.Native.Nat.{ℕ}
 use mathlib.Core.Path.{_≡_}
 use mathlib.Core.List.{List, map}
