@@ -10,12 +10,15 @@ use machine::Steps;
 use machine::run;
 use verdict::Verdict;
 ghost use mathlib.Core.Path.{_≡_};
+ghost use Prim.Native.Nat.{_*_};
 ghost use lib.ListN.{length};
+ghost use Rattle.frame.specs.Frame.{logRecord};
+ghost use Rattle.machine.specs.Run.{mostSteps};
 ghost use Rattle.agreement.specs.Exchange.{Ready, Exchanged};
 
 // Room for the steps of the longest list, and for their log.
 fn room_for_steps() -> [u8; Steps::MOST]
-    ensures { λ r. ⌜ 4160 ≡ length r ⌝ }
+    ensures { λ r. ⌜ mostSteps ≡ length r ⌝ }
 {
     [0; Steps::MOST]
 }
@@ -23,7 +26,7 @@ fn room_for_steps() -> [u8; Steps::MOST]
 const LOG: usize = Steps::MOST * Frame::LOG_RECORD;
 
 fn room_for_log() -> [u8; LOG]
-    ensures { λ r. ⌜ 20800 ≡ length r ⌝ }
+    ensures { λ r. ⌜ mostSteps * logRecord ≡ length r ⌝ }
 {
     [0; LOG]
 }

@@ -3,7 +3,7 @@ use mathlib.Core.Path.{_≡_, sym, _∙_}
 use Rattle.verdict.specs.declared.Verdict.the-variants.{Done}
 use Rattle.board.specs.Check.{checked}
 use Rattle.machine.proofs.Laws.{refuses-back}
-use Rattle.agreement.proofs.Sending.{Sent, sent, not-sent}
+use Rattle.agreement.proofs.ExchangeCalls.{Sent, sent, not-sent}
 use borrow.Author.Needs.{needs}
 use Rattle.agreement.proofs.exchange.Statement.{statement}
 use Rattle.agreement.proofs.exchange.Tie as tie

@@ -1,14 +1,14 @@
 -- The steps of an accepted list pass, and there is room for its log: so only the events and the answers' room can refuse, and the decoder gets the log of the run.
 use mathlib.Core.Path.{sym}
 use Rattle.machine.proofs.Laws.{refuses-back}
-use Rattle.agreement.proofs.Sending.{Heard, heard, not-heard, exchanged, not-decoded}
+use Rattle.agreement.proofs.ExchangeCalls.{Logged, logged, not-logged, exchanged, not-decoded}
 use borrow.Author.Needs.{needs}
 use Rattle.agreement.proofs.run_and_decode.Statement.{statement}
 use Rattle.agreement.proofs.run_and_decode.Tie as tie
 
 -- the log of the run stands at the start of its room
-logged : (c : tie.After-heard) → Heard (c .before .before .before .before .before .before .before .before .before .before .before .args .board) (c .before .before .before .before .before .before .before .before .before .before .before .args .list .now) (c .before .before .before .before .before .before .before .before .before .before .before .args .events .now) (c .before .before .before .before .run .last .1 .1 .1 .0) (c .before .before .before .before .before .before .before .before .before .before .before .pre .count) (c .heard .given .0 .0) (c .before .before .before .before .run .result .board)
-logged c = heard _ _ _ (c .before .before .before .before .before .before .before .before .before .before .before .pre) (sym (c .before .before .before .before .before .before .room-for-log .ensures)) (c .before .before .before .before .run .ensures) (c .heard .given .1)
+heard : (c : tie.After-heard) → Logged (c .before .before .before .before .before .before .before .before .before .before .before .args .board) (c .before .before .before .before .before .before .before .before .before .before .before .args .list .now) (c .before .before .before .before .before .before .before .before .before .before .before .args .events .now) (c .before .before .before .before .run .last .1 .1 .1 .0) (c .before .before .before .before .before .before .before .before .before .before .before .pre .count) (c .heard .given .0 .0) (c .before .before .before .before .run .result .board)
+heard c = logged _ _ _ (c .before .before .before .before .before .before .before .before .before .before .before .pre) (sym (c .before .before .before .before .before .before .room-for-log .ensures)) (c .before .before .before .before .run .ensures) (c .heard .given .1)
 
 room-for-log-requires : tie.Need-room-for-log-requires
 room-for-log-requires c κs = search needs
@@ -30,14 +30,14 @@ of-requires c κs = search needs
 
 returns : tie.Need-returns
 returns c =
-    let refused = not-heard _ _ _ (c .before .before .before .before .before .before .before .before .before .before .before .before .pre) (sym (c .before .before .before .before .before .before .before .room-for-log .ensures)) (c .before .before .before .before .before .run .ensures) (c .before .before .before .before .before .before .before .before .before .before .before .before .args .answers .now) (c .before .enum-told .given .1) in
+    let refused = not-logged _ _ _ (c .before .before .before .before .before .before .before .before .before .before .before .before .pre) (sym (c .before .before .before .before .before .before .before .room-for-log .ensures)) (c .before .before .before .before .before .run .ensures) (c .before .before .before .before .before .before .before .before .before .before .before .before .args .answers .now) (c .before .enum-told .given .1) in
     rw (c .of .ensures) (refuses-back refused (c .before .enum-told .given .1))
 
 array-share-prefix-log : tie.Need-array-share-prefix-log
-array-share-prefix-log c = logged (c .before) .log .within
+array-share-prefix-log c = heard (c .before) .log .within
 
 slice-aggregate-decode : tie.Need-slice-aggregate-decode
-slice-aggregate-decode c = logged (c .before .before) .log .size
+slice-aggregate-decode c = heard (c .before .before) .log .size
 
 decode-requires : tie.Need-decode-requires
 decode-requires c κs = search needs
@@ -56,7 +56,7 @@ same-length c = search needs
 
 returns-2 : tie.Need-returns-2
 returns-2 c =
-    let run = logged (c .before .before .before .before .before .before .before .before .before) in
+    let run = heard (c .before .before .before .before .before .before .before .before .before) in
     rw (c .of2 .ensures) (not-decoded _ _ _ (c .before .before .before .before .before .before .before .before .before .before .before .before .before .before .before .before .before .before .before .before .pre) (run .happening) (run .log .bytes) (c .before .before .before .before .before .decode .ensures) (c .before .enum-told3 .given .1))
 
 of-requires-3 : tie.Need-of-requires-3
@@ -67,7 +67,7 @@ same-length-2 c = search needs
 
 returns-3 : tie.Need-returns-3
 returns-3 c =
-    let run = logged (c .before .before .before .before .before .before .before .before .before) in
+    let run = heard (c .before .before .before .before .before .before .before .before .before) in
     rw (c .of3 .ensures) (exchanged _ _ _ (c .before .before .before .before .before .before .before .before .before .before .before .before .before .before .before .before .before .before .before .before .pre) (run .happening) (run .log .bytes) (c .before .before .before .before .before .decode .ensures) (c .before .enum-told2 .given .1) (run .board))
 
 pub run-and-decode-spec : {M : Type 1} → statement M

@@ -26,7 +26,7 @@ use Rattle.machine.proofs.Places.{phys-of-with}
 use Rattle.agreement.specs.Demand3.{Hunts, Demand3, registersOf, linksOf, followersOf, endsHunting}
 use Rattle.agreement.specs.Exchange.{answersOfExchange, physAfterExchange, Exchanged, SameAsPlain}
 use Rattle.agreement.proofs.Demand3.{demand-3}
-use Rattle.agreement.proofs.Sending.{done-by}
+use Rattle.agreement.proofs.ExchangeCalls.{done-by}
 
 -- two results that meet the promise of `exchange` are equal, as are the answers
 pub exchange-unique : (board : Board) (list events out : List ℕ) {r s : Outcome} {out₁ out₂ : List ℕ} → Exchanged board list events out r out₁ → Exchanged board list events out s out₂ → (r ≡ s) × (out₁ ≡ out₂)

@@ -16,8 +16,8 @@ use Rattle.verdict.specs.Output.{join, written, roomFor, Writes}
 use Rattle.verdict.proofs.Checks.{all-pass-done}
 use Rattle.verdict.proofs.Elements.{all-append, all-map-of}
 use Rattle.frame.specs.declared.list.Transaction.{Transaction}
-use Rattle.frame.specs.Frame.{preamble, clocks, logRecord}
-use Rattle.frame.specs.List.{isRead, listVerdict, transactions}
+use Rattle.frame.specs.Frame.{preamble, clocks, logRecord, logPartBytes}
+use Rattle.frame.specs.List.{mostTransactions, isRead, listVerdict, transactions}
 use Rattle.frame.specs.Steps.{release, opSteps, turnaroundSteps, dataSteps, table, stepsOf, translation, translating, Translated}
 use Rattle.frame.specs.Answers.{answerRecord, answerBytes, decoding, Decoded}
 use Rattle.frame.proofs.Lists.{accepted-list}
@@ -27,7 +27,7 @@ use Rattle.board.specs.Check.{checked}
 use Rattle.board.specs.Events.{eventsVerdict}
 use Rattle.machine.specs.declared.Outcome.{Outcome}
 use Rattle.machine.specs.Outcome.{outcomeOf, withPhys}
-use Rattle.machine.specs.Run.{stepFault, stepsVerdict, running, logOfRun, Ran}
+use Rattle.machine.specs.Run.{mostSteps, stepFault, stepsVerdict, running, logOfRun, Ran}
 use Rattle.machine.specs.Plain.{planning}
 use Rattle.machine.proofs.RunLaws.{log-length}
 use Rattle.agreement.specs.Exchange.{answersOfExchange, physAfterExchange, Exchanged, Ready}
@@ -110,7 +110,7 @@ refused-by (Refused d j) size e = e
 
 -- A list that the checks let through
 module _ (list : List ℕ) (n : ℕ) (accepted : listVerdict list ≡ Done n) where
-  few : n ≤ 64
+  few : n ≤ mostTransactions
   few = accepted-list list n accepted .allowed
 
   steps-counted : length (translation list) ≡ n * clocks
@@ -123,23 +123,23 @@ module _ (list : List ℕ) (n : ℕ) (accepted : listVerdict list ≡ Done n) wh
   pub steps-accepted : stepsVerdict (translation list) ≡ Done (n * clocks)
   unfolding stepsVerdict
   steps-accepted =
-      rw (steps-counted, le-ltb 4160 (n * 65) (omega (arith, few)))
-      (all-pass-done (stepFault (translation list)) (Done (n * 65)) 0 (n * 65) (λ k h l. step-of-four list k))
+      rw (steps-counted, le-ltb mostSteps (n * clocks) (omega (arith, few)))
+      (all-pass-done (stepFault (translation list)) (Done (n * clocks)) 0 (n * clocks) (λ k h l. step-of-four list k))
 
   -- its run is refused for the board and the events alone
-  running-list : (board : Board) (events log : List ℕ) → length log ≡ 20800 → running board (translation list) events log ≡ andThen (checked board) (λ phys. andThen (eventsVerdict board events (n * clocks)) (λ happenings. Done (n * clocks * logRecord)))
-  running-list board events log room = rw (steps-accepted, room-enough log (n * 65 * 5) (omega (arith, few)))
+  running-list : (board : Board) (events log : List ℕ) → length log ≡ mostSteps * logRecord → running board (translation list) events log ≡ andThen (checked board) (λ phys. andThen (eventsVerdict board events (n * clocks)) (λ happenings. Done (n * clocks * logRecord)))
+  running-list board events log room = rw (steps-accepted, room-enough log (n * clocks * logRecord) (omega (arith, few)))
 
   -- its log is refused for room alone
   decoding-log : (board : Board) (events out : List ℕ) → decoding list (logOfRun board (translation list) events) out ≡ roomFor out (n * answerRecord)
-  decoding-log board events out = rw (accepted, eq-eqb _ (n * 325) (log-counted board events ∙ omega arith))
+  decoding-log board events out = rw (accepted, eq-eqb _ (n * logPartBytes) (log-counted board events ∙ omega arith))
 
 -- the list's checks decide whether it is translated
-translating-list : (list out : List ℕ) → length out ≡ 4160 → translating list out ≡ andThen (listVerdict list) (λ n. Done (n * clocks))
+translating-list : (list out : List ℕ) → length out ≡ mostSteps → translating list out ≡ andThen (listVerdict list) (λ n. Done (n * clocks))
 translating-list list out room = go (listVerdict list) refl
   where
-    go : (v : Verdict) → listVerdict list ≡ v → andThen v (λ n. roomFor out (n * 65)) ≡ andThen v (λ n. Done (n * 65))
-    go (Done n) e = room-enough out (n * 65) (omega (arith, few list n e))
+    go : (v : Verdict) → listVerdict list ≡ v → andThen v (λ n. roomFor out (n * clocks)) ≡ andThen v (λ n. Done (n * clocks))
+    go (Done n) e = room-enough out (n * clocks) (omega (arith, few list n e))
     go (Refused c k) e = refl
 
 -- a translated list: what its steps are
@@ -148,7 +148,7 @@ pub record Sent (list out : List ℕ) (m : ℕ) : Type 0 where
   pub accepted : listVerdict list ≡ Done count
   pub steps : Starts out (translation list) m
 
-module _ (list : List ℕ) {room out : List ℕ} {answer : Verdict} (long : length room ≡ 4160) (translated : Translated list room answer out) where
+module _ (list : List ℕ) {room out : List ℕ} {answer : Verdict} (long : length room ≡ mostSteps) (translated : Translated list room answer out) where
   pub sent : {m : ℕ} → answer ≡ Done m → Sent list out m
   sent {m} e =
       let done = sym (translated .verdict) ∙ e in
@@ -163,7 +163,7 @@ module _ (list : List ℕ) {room out : List ℕ} {answer : Verdict} (long : leng
   not-sent e = refused-by (listVerdict list) (λ n. n * clocks) (sym (translating-list list room long) ∙ sym (translated .verdict) ∙ e)
 
 -- a run of those steps on a sound board: what its log and its board are
-pub record Heard (before : Board) (list events out : List ℕ) (n m : ℕ) (after : Board) : Type 0 where
+pub record Logged (before : Board) (list events out : List ℕ) (n m : ℕ) (after : Board) : Type 0 where
   pub happenings : ℕ
   pub happening : eventsVerdict before events (n * clocks) ≡ Done happenings
   pub log : Starts out (logOfRun before (translation list) events) m
@@ -173,12 +173,12 @@ module _ (before : Board) (list events : List ℕ) {steps : List ℕ} (ready : R
   abbrev happens : Verdict
   happens = eventsVerdict before events (ready .count * clocks)
 
-  module _ {room out : List ℕ} {r : Outcome} (long : length room ≡ 20800) (ran : Ran before steps events room r out) where
+  module _ {room out : List ℕ} {r : Outcome} (long : length room ≡ mostSteps * logRecord) (ran : Ran before steps events room r out) where
     on-sound : running before steps events room ≡ andThen happens (λ happenings. Done (ready .count * clocks * logRecord))
     on-sound = rw (ready .translated) (running-list list (ready .count) (ready .accepted) before events room long ∙ rw (ready .sound))
 
-    pub heard : {m : ℕ} → r .verdict ≡ Done m → Heard before list events out (ready .count) m (r .board)
-    heard {m} e =
+    pub logged : {m : ℕ} → r .verdict ≡ Done m → Logged before list events out (ready .count) m (r .board)
+    logged {m} e =
         let done = sym (ran .writes .verdict) ∙ e in
         let by = done-by happens _ (sym on-sound ∙ done) in
         record {
@@ -188,21 +188,21 @@ module _ (before : Board) (list events : List ℕ) {steps : List ℕ} (ready : R
           board = ran .board ∙ rw (done, ready .translated);
         }
 
-    pub not-heard : (answers : List ℕ) {c k : ℕ} → r .verdict ≡ Refused c k → planning before list events answers ≡ Refused c k
-    not-heard answers e =
+    pub not-logged : (answers : List ℕ) {c k : ℕ} → r .verdict ≡ Refused c k → planning before list events answers ≡ Refused c k
+    not-logged answers e =
         let refused = refused-by happens (λ h. ready .count * clocks * logRecord) (sym on-sound ∙ sym (ran .writes .verdict) ∙ e) in
         rw (ready .sound, ready .accepted, refused)
 
   -- what the decoder says of that log is the answer, and the bytes it writes are the result
-  module _ {log out out′ : List ℕ} {happenings : ℕ} {answer : Verdict} (happening : happens ≡ Done happenings) (logged : log ≡ logOfRun before (translation list) events) (decoded : Decoded list log out answer out′) where
+  module _ {log out out′ : List ℕ} {happenings : ℕ} {answer : Verdict} (happening : happens ≡ Done happenings) (held : log ≡ logOfRun before (translation list) events) (decoded : Decoded list log out answer out′) where
     room-left : decoding list log out ≡ planning before list events out
-    room-left = rw logged (decoding-log list (ready .count) (ready .accepted) before events out ∙ sym (rw (ready .sound, ready .accepted, happening)))
+    room-left = rw held (decoding-log list (ready .count) (ready .accepted) before events out ∙ sym (rw (ready .sound, ready .accepted, happening)))
 
     answer-planned : planning before list events out ≡ answer
     answer-planned = sym (decoded .verdict ∙ room-left)
 
     written-planned : Writes (planning before list events out) (join (map answerBytes (answersOfExchange before list events))) out answer out′
-    written-planned = record { verdict = sym answer-planned; output = decoded .output ∙ rw (room-left, logged) }
+    written-planned = record { verdict = sym answer-planned; output = decoded .output ∙ rw (room-left, held) }
 
     pub exchanged : {m : ℕ} {after : Board} → answer ≡ Done m → after ≡ withPhys before (physAfterExchange before list events) → Exchanged before list events out (outcomeOf answer after) out′
     exchanged e left = record { writes = written-planned; board = rw (answer-planned, e) left }
