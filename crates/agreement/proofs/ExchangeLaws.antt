@@ -3,12 +3,14 @@ use Prim.Native.Nat.{ℕ, _<_}
 use mathlib.Core.Path.{_≡_, refl, ap, sym, subst, _∙_}
 use mathlib.Core.List.{List, [], _∷_, _++_, map, map-append}
 use lib.ListN.{length, drop, length-map}
+use lib.Seq.{take-at}
 use Rattle.verdict.specs.declared.Verdict.{Verdict}
 use Rattle.verdict.specs.declared.Verdict.the-variants.{Done, Refused}
 use Rattle.verdict.specs.File.{byteAt}
 use Rattle.verdict.specs.Lists.{All}
-use Rattle.verdict.specs.Output.{join, written, outputAfter}
+use Rattle.verdict.specs.Output.{tabulate, join, written, outputAfter}
 use Rattle.verdict.proofs.Elements.{all-map, all-map-of}
+use Rattle.verdict.proofs.Lists.{length-tabulate, all-tabulate}
 use Rattle.frame.specs.declared.list.Transaction.{Transaction}
 use Rattle.frame.specs.List.{listVerdict, transactions}
 use Rattle.frame.specs.Answers.{answerBytes}
@@ -16,6 +18,7 @@ use Rattle.wire.specs.declared.Follower.{Follower}
 use Rattle.wire.specs.declared.Follower.the-variants.{Hunting}
 use Rattle.phy.specs.declared.Phy.{Phy}
 use Rattle.board.specs.declared.Board.{Board}
+use Rattle.board.specs.Load.{phyAt, boardVerdict, boardOf, loadedBy, loaded}
 use Rattle.board.specs.Check.{checked}
 use Rattle.board.specs.Typed.{TypedBoard}
 use Rattle.machine.specs.declared.Outcome.{Outcome}
@@ -112,3 +115,18 @@ module _ (board : Board) (list events out : List ℕ) (typed : TypedBoard board)
           let ends = demanded e .hunting in
           let same : length after ≡ length (physOf board) = sym (length-map after (λ phy. phy .follower)) ∙ ap length ends ∙ ends-length (transactions list) board in
           subst (All Hunts) (sym (phys-of-with board after same)) (all-hunt after (subst (All HuntsIn) (sym ends) (ends-hunt (transactions list) board hunt)))
+
+-- "A load gives hunting": so on a board that was just loaded the two answer alike
+pub loaded-hunts : (file : List ℕ) → All Hunts (physOf (loaded file .board))
+unfolding loaded boardOf phyAt
+loaded-hunts file = go (boardVerdict file)
+  where
+    go : (v : Verdict) → All Hunts (physOf (loadedBy v file .board))
+    go (Done n) =
+        subst (All Hunts) (sym (take-at (tabulate n (phyAt file)) _ n (length-tabulate n (phyAt file))))
+        (all-tabulate Hunts n (phyAt file) (λ k within. record { ones = 0; hunting = refl }))
+    go (Refused c k) = tt
+
+module _ (file list events out : List ℕ) (typed : TypedBoard (loaded file .board)) (bytes : (i : ℕ) → byteAt list i < 256) where
+  pub loaded-agrees : {r s : Outcome} {out₁ out₂ : List ℕ} → Exchanged (loaded file .board) list events out r out₁ → Planned (loaded file .board) list events out s out₂ → SameAsPlain r s out₁ out₂
+  loaded-agrees p q = exchange-agrees (loaded file .board) list events out typed bytes (loaded-hunts file) p q
