@@ -60,7 +60,7 @@ all-at Q [] d i h l = absurd (omega arith)
 all-at Q (x ∷ xs) d zero h l = h .0
 all-at Q (x ∷ xs) d (suc i) h l = all-at Q xs d i (h .1) (omega arith)
 
-all-or : {A : Type 0} (Q : A → Type 0) (xs : List A) (d : A) (i : ℕ) → Q d → All Q xs → Q (getD xs i d)
+pub all-or : {A : Type 0} (Q : A → Type 0) (xs : List A) (d : A) (i : ℕ) → Q d → All Q xs → Q (getD xs i d)
 all-or Q [] d i base h = base
 all-or Q (x ∷ xs) d zero base h = h .0
 all-or Q (x ∷ xs) d (suc i) base h = all-or Q xs d i base (h .1)

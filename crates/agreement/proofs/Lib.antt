@@ -16,3 +16,5 @@ pub mod Phys
 pub mod Cases
 pub mod Boards
 pub mod Demand3
+pub mod ExchangeCalls
+pub mod ExchangeLaws

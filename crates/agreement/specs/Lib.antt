@@ -4,3 +4,4 @@ pub mod Agrees
 pub mod Phys
 pub mod Cases
 pub mod Demand3
+pub mod Exchange

@@ -22,11 +22,11 @@ use frame::Frame;
 use frame::Transaction;
 use verdict::Verdict;
 
-struct Steps {}
+pub struct Steps {}
 
 impl Steps {
     // As many as the longest list has, and the largest that there is.
-    const MOST: usize = Transaction::MOST * Frame::CLOCKS;
+    pub const MOST: usize = Transaction::MOST * Frame::CLOCKS;
 
     const LARGEST: u8 = 3;
 }

@@ -9,6 +9,7 @@ mod transact;
 mod without_wire;
 
 use board::Board;
+pub use clocks::Steps;
 pub use clocks::run;
 use verdict::Verdict;
 pub use without_wire::plain;
@@ -22,7 +23,7 @@ pub struct Outcome {
 }
 
 impl Outcome {
-    fn of(verdict: Verdict, board: Board) -> Outcome
+    pub fn of(verdict: Verdict, board: Board) -> Outcome
         ensures { λ r. ⌜ r ≡ outcomeOf verdict board ⌝ }
     {
         Outcome { verdict, board }
