@@ -1,7 +1,9 @@
 pub mod Laws
 pub mod Places
+pub mod EachPlace
 pub mod HappensEffect
 pub mod Happenings
+pub mod Changes
 pub mod Kept
 pub mod LogLevels
 pub mod Reading

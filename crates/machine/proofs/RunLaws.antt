@@ -1,5 +1,5 @@
 -- What a run's log and board say, in the document's words.
-use Prim.Native.Nat.{ℕ, suc, _+_, _*_, _/_, _%_, _^_, _≤_, _<_}
+use Prim.Native.Nat.{ℕ, _+_, _*_, _/_, _%_, _^_, _≤_, _<_}
 use mathlib.Core.Path.{_≡_, refl, sym, ap, _∙_}
 use mathlib.Core.Bool.{Bool, true, false, _&&_, _||_, or-false}
 use mathlib.Core.List.{List, [], _∷_, _++_, map, map-append}
@@ -12,11 +12,10 @@ use borrow.Author.Tests.{eq-eqb, ne-eqb, le-leb, leb-true}
 use Rattle.verdict.specs.Bits.{bit}
 use Rattle.verdict.specs.Lists.{All}
 use Rattle.verdict.specs.Output.{tabulate, join}
-use Rattle.verdict.proofs.Elements.{all-map}
 use Rattle.verdict.proofs.Lists.{length-pieces, getD-pieces, join-append}
 use Rattle.wire.specs.declared.Drive.{Drive}
 use Rattle.wire.specs.declared.Drive.the-variants.{Released, Driven}
-use Rattle.wire.specs.Wire.{Party, asBit, stationDrive, levelOf, drivers, clocked, eventsAfter, runs, driven}
+use Rattle.wire.specs.Wire.{asBit, stationDrive, levelOf, drivers, runs, driven}
 use Rattle.wire.proofs.Runs.{runs-append, driven-append}
 use Rattle.phy.specs.Abilities.{one}
 use Rattle.phy.specs.Words.{setBit}
@@ -26,12 +25,13 @@ use Rattle.phy.proofs.Keeping.{keeps-typed, clock-typed}
 use Rattle.board.specs.declared.Board.{Board}
 use Rattle.machine.specs.declared.Outcome.{Outcome}
 use Rattle.machine.specs.Outcome.{physOf}
-use Rattle.machine.specs.Events.{happens}
 use Rattle.machine.specs.Log.{isDriving, flagsOf, maskFrom, clockRecord}
 use Rattle.machine.specs.Run.{addressesOf, partyWith, stationDrives, atStart, physAfterRun, logOfRun, Ran}
 use Rattle.machine.proofs.Lockstep.{drivesIn, log-by-clock}
 use Rattle.machine.proofs.Laws.{hands-back-unique}
 use Rattle.machine.proofs.HappensEffect.{happens-effect}
+use Rattle.machine.proofs.EachPlace.{keeps-closed, each-keeps}
+use Rattle.machine.proofs.Changes.{run-changes}
 
 -- two results that meet the promise of `run` are equal, as are the logs
 pub run-unique : (board : Board) (steps events log : List ℕ) {r s : Outcome} {log₁ log₂ : List ℕ} → Ran board steps events log r log₁ → Ran board steps events log s log₂ → (r ≡ s) × (log₁ ≡ log₂)
@@ -167,16 +167,7 @@ module _ (board : Board) (events : List ℕ) where
         ∙ ap join (map-append rec first rest)
         ∙ join-append (map rec first) (map rec rest)
 
--- what every clock and every event keeps, a run keeps
-pub runs-keep-all : {P : Type 0} (party : Party P) (Q : P → Type 0) → ((level : Bool) (p : P) → Q p → Q (party .samples level p)) → ((c : ℕ) (p : P) → Q p → Q (party .happens c p)) → (ds : List Drive) (c : ℕ) (ps : List P) → All Q ps → All Q (runs party ds c ps)
-unfolding runs
-runs-keep-all party Q clocks events [] c ps all = all
-runs-keep-all party Q clocks events (d ∷ ds) c ps all =
-    runs-keep-all party Q clocks events ds (suc c) (eventsAfter party (suc c) (clocked party d ps))
-    (all-map Q Q (party .happens (suc c)) (clocked party d ps) (events (suc c)) (all-map Q Q (party .samples _) ps (clocks _) all))
-
 -- every field stays within its type
 pub run-typed : (board : Board) (steps events : List ℕ) → All Typed (physOf board) → All Typed (physAfterRun board steps events)
-run-typed board steps events typed =
-    runs-keep-all (partyWith events) Typed clock-typed (λ c. keeps-typed (happens-effect events c)) (stationDrives steps) 0 (atStart board events)
-    (all-map Typed Typed (happens events 0) (physOf board) (keeps-typed (happens-effect events 0)) typed)
+run-typed board steps events =
+    each-keeps Typed (run-changes (keeps-closed Typed) events (λ c. keeps-typed (happens-effect events c)) clock-typed board steps)
