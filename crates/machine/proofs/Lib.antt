@@ -17,3 +17,4 @@ pub mod Stands
 pub mod Accepts
 pub mod Begins
 pub mod RunLaws
+pub mod SoundBoards
