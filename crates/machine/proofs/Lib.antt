@@ -5,7 +5,6 @@ pub mod HappensEffect
 pub mod Happenings
 pub mod Changes
 pub mod Kept
-pub mod LogLevels
 pub mod Reading
 pub mod Transactions
 pub mod Transacts

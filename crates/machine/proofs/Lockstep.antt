@@ -4,12 +4,12 @@ use mathlib.Core.Path.{_≡_, refl, sym, ap, _∙_}
 use mathlib.Core.Bool.{Bool, true, false, cond}
 use mathlib.Core.List.{List, [], _∷_, _++_, map, map-append}
 use native.Mathlib.Omega.{arith}
-use lib.ListN.{length, take, length-map}
+use lib.ListN.{length, getD, take, length-map}
 use lib.Seq.{take-suc, take-length, length-take-le}
 use lib.Dec.{eqb}
 use Rattle.verdict.specs.File.{byteAt}
 use Rattle.verdict.specs.Output.{tabulate}
-use Rattle.verdict.proofs.Lists.{map-tabulate}
+use Rattle.verdict.proofs.Lists.{getD-tabulate, map-tabulate}
 use Rattle.wire.specs.declared.Drive.{Drive}
 use Rattle.wire.specs.declared.Follower.{Follower}
 use Rattle.wire.specs.declared.Follower.the-variants.{Hunting, Inside}
@@ -90,13 +90,18 @@ module _ (events steps : List ℕ) (start : List Phy) where
         ∙ driven-append (partyWith events) (stationDrives (take k steps)) (stationIn k ∷ []) 0 k start so-far
 
   -- the clocks of a log one by one
-  pub driven-by-clock : (k : ℕ) → k ≤ length steps → driven (partyWith events) (stationDrives (take k steps)) 0 start ≡ tabulate k drivesIn
+  driven-by-clock : (k : ℕ) → k ≤ length steps → driven (partyWith events) (stationDrives (take k steps)) 0 start ≡ tabulate k drivesIn
   unfolding tabulate driven
   driven-by-clock zero h = refl
   driven-by-clock (suc k) h = driven-next k (omega arith) ∙ ap (λ xss. xss ++ (drivesIn k ∷ [])) (driven-by-clock k (omega arith))
 
+  pub driven-all : driven (partyWith events) (stationDrives steps) 0 start ≡ tabulate (length steps) drivesIn
+  driven-all =
+      ap (λ ss. driven (partyWith events) (stationDrives ss) 0 start) (sym (take-length steps))
+      ∙ driven-by-clock (length steps) (omega arith)
+
+  pub driven-at : (k : ℕ) → k < length steps → getD (driven (partyWith events) (stationDrives steps) 0 start) k [] ≡ drivesIn k
+  driven-at k within = ap (λ clocks. getD clocks k []) driven-all ∙ getD-tabulate (length steps) drivesIn [] k within
+
   pub log-by-clock : (addresses : List ℕ) → map (clockRecord addresses) (driven (partyWith events) (stationDrives steps) 0 start) ≡ tabulate (length steps) (λ k. clockRecord addresses (drivesIn k))
-  log-by-clock addresses =
-      ap (λ ss. map (clockRecord addresses) (driven (partyWith events) (stationDrives ss) 0 start)) (sym (take-length steps))
-      ∙ ap (map (clockRecord addresses)) (driven-by-clock (length steps) (omega arith))
-      ∙ map-tabulate (clockRecord addresses) (length steps) drivesIn
+  log-by-clock addresses = ap (map (clockRecord addresses)) driven-all ∙ map-tabulate (clockRecord addresses) (length steps) drivesIn

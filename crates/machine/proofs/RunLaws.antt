@@ -8,7 +8,7 @@ use native.Mathlib.Decide.{ℕ-discrete}
 use native.Mathlib.Nat.{zero-div}
 use lib.ListN.{length, getD, length-map}
 use lib.Dec.{eqb, leb}
-use borrow.Author.Tests.{eq-eqb, ne-eqb, le-leb, leb-true}
+use borrow.Author.Tests.{eq-eqb, ne-eqb, le-leb, lt-leb, leb-true}
 use Rattle.verdict.specs.Bits.{bit}
 use Rattle.verdict.specs.Lists.{All}
 use Rattle.verdict.specs.Output.{tabulate, join}
@@ -27,7 +27,7 @@ use Rattle.machine.specs.declared.Outcome.{Outcome}
 use Rattle.machine.specs.Outcome.{physOf}
 use Rattle.machine.specs.Log.{isDriving, flagsOf, maskFrom, clockRecord}
 use Rattle.machine.specs.Run.{addressesOf, partyWith, stationDrives, atStart, physAfterRun, logOfRun, Ran}
-use Rattle.machine.proofs.Lockstep.{drivesIn, log-by-clock}
+use Rattle.machine.proofs.Lockstep.{physAfter, stationIn, drivesIn, log-by-clock}
 use Rattle.machine.proofs.Laws.{hands-back-unique}
 use Rattle.machine.proofs.HappensEffect.{happens-effect}
 use Rattle.machine.proofs.EachPlace.{keeps-closed, each-keeps}
@@ -68,6 +68,16 @@ module _ (station : Drive) (drives : List Drive) where
       go : (b : Bool) → asBit b ≡ 1 → b ≡ true
       go true e = refl
       go false e = absurd (omega arith)
+
+  -- so the flags are below 4 where at most one drives
+  uncontended : drivers (station ∷ drives) ≤ 1 → flagsOf station drives < 4
+  uncontended few = rw (lt-leb 2 (drivers (station ∷ drives)) (omega arith)) (go (levelOf (station ∷ drives)) (isDriving station))
+    where
+      go : (a b : Bool) → asBit a * 1 + asBit b * 2 + 0 < 4
+      go true true = omega arith
+      go true false = omega arith
+      go false true = omega arith
+      go false false = omega arith
 
 -- The mask: "bit a set when the PHY at address a drives"
 pub drivesAt : ℕ → List ℕ → List Drive → Bool
@@ -133,6 +143,27 @@ module _ (board : Board) (steps events : List ℕ) where
   pub log-byte : (k i : ℕ) → k < length steps → i < 5 → getD (logOfRun board steps events) (k * 5 + i) 0 ≡ getD (recordIn k) i 0
   unfolding clockRecord
   log-byte k i h l = ap (λ xs. getD xs (k * 5 + i) 0) log-pieces ∙ getD-pieces 5 (length steps) recordIn (λ k. refl) 0 k i h l
+
+  -- the flags of clock k + 1, by what all parties do in it
+  module _ (k : ℕ) (within : k < length steps) where
+    abbrev station : Drive
+    station = stationIn events steps (atStart board events) k
+
+    abbrev others : List Drive
+    others = map (partyWith events .drives) (physAfter events steps (atStart board events) k)
+
+    flags-byte : getD (logOfRun board steps events) (k * 5) 0 ≡ getD (recordIn k) 0 0
+    flags-byte =
+        let place : k * 5 + 0 ≡ k * 5 = omega arith in
+        rw place at (log-byte k 0 within (omega arith))
+
+    pub log-level : bit 0 (getD (logOfRun board steps events) (k * 5) 0) ≡ asBit (levelOf (drivesIn events steps (atStart board events) k))
+    unfolding clockRecord
+    log-level = ap (bit 0) flags-byte ∙ level-flag station others
+
+    pub log-uncontended : drivers (drivesIn events steps (atStart board events) k) ≤ 1 → getD (logOfRun board steps events) (k * 5) 0 < 4
+    unfolding clockRecord
+    log-uncontended few = rw flags-byte (uncontended station others few)
 
 -- an empty run: only the events of clock 0 act
 module _ (board : Board) (events : List ℕ) where
