@@ -24,13 +24,13 @@ use Rattle.wire.specs.declared.Follower.the-variants.{Hunting}
 use Rattle.wire.specs.Wire.{Party, asBit, levelOf, drivers, runs, driven}
 use Rattle.wire.specs.Machines.{clocksOf}
 use Rattle.phy.specs.declared.Phy.{Phy}
-use Rattle.phy.proofs.Keeping.{keeps-follower}
 use Rattle.board.specs.declared.Board.{Board}
 use Rattle.machine.specs.Outcome.{physOf}
 use Rattle.machine.specs.Events.{happens}
 use Rattle.machine.specs.Run.{partyWith, stationDrives, atStart, logOfRun, physAfterRun}
 use Rattle.machine.specs.Plain.{coreWith, answersOfPlain, physAfterPlain}
 use Rattle.machine.proofs.HappensEffect.{happens-effect}
+use Rattle.machine.proofs.Kept.{plain-followers}
 use Rattle.machine.proofs.Lockstep.{drivesIn, driven-at}
 use Rattle.machine.proofs.RunLaws.{log-length, log-level, log-uncontended}
 use Rattle.agreement.specs.Levels.{at}
@@ -40,7 +40,6 @@ use Rattle.agreement.specs.Demand3.{Asked, Demand3, followersOf, endsHun
 use Rattle.agreement.proofs.Accepted.{accepted-all}
 use Rattle.agreement.proofs.Decoded.{station-translated, clocks-translated, decoded-heard}
 use Rattle.agreement.proofs.Heard.{heard-all-same}
-use Rattle.agreement.proofs.Plain.{followers-stay}
 use Rattle.agreement.proofs.Phys.{phy-follows}
 use Rattle.agreement.proofs.Boards.{waiting, one-answers}
 use Rattle.agreement.proofs.Agreement.{whole-agreement}
@@ -109,11 +108,6 @@ module _ (board : Board) (list events : List ℕ) (asked : Asked board list) whe
   left = ap (λ ds. runs (partyWith events) ds 0 (atStart board events)) (sym station) ∙ agrees .parties
 
   -- every PHY ends hunting
-  followers-plain : followersOf (physAfterPlain board list events) ≡ followersOf (physOf board)
-  followers-plain =
-      followers-stay (phy-follows (happens events) (happens-effect events)) preamble preamble (transactions list) 0 (atStart board events)
-      ∙ map-then (λ (phy : Phy). phy .follower) (happens events 0) (λ phy. phy .follower) (keeps-follower (happens-effect events 0)) (physOf board)
-
   ends-hunting : (ts : List Transaction) (phys : List Phy) → followersOf phys ≡ followersOf (physOf board) → followersOf (settled phyLine ts phys) ≡ endsHunting ts board
   ends-hunting [] phys same = same
   ends-hunting (t ∷ ts) phys same =
@@ -139,7 +133,7 @@ module _ (board : Board) (list events : List ℕ) (asked : Asked board list) whe
         answers = heard-plain;
         registers = ap (map (λ (phy : Phy). phy .registers)) left ∙ same-field (λ phy. phy .registers) (λ phy. refl) (transactions list) (physAfterPlain board list events);
         links = ap (map (λ (phy : Phy). phy .link)) left ∙ same-field (λ phy. phy .link) (λ phy. refl) (transactions list) (physAfterPlain board list events);
-        hunting = ap followersOf left ∙ ends-hunting (transactions list) (physAfterPlain board list events) followers-plain;
+        hunting = ap followersOf left ∙ ends-hunting (transactions list) (physAfterPlain board list events) (plain-followers board list events);
         alone = rw station at (agrees .alone);
         no-contention = flags-run;
       }
