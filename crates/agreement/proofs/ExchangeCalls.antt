@@ -14,7 +14,7 @@ use Rattle.verdict.specs.Bits.{bits}
 use Rattle.verdict.specs.Lists.{All}
 use Rattle.verdict.specs.Output.{join, written, roomFor, Writes}
 use Rattle.verdict.proofs.Checks.{all-pass-done}
-use Rattle.verdict.proofs.Elements.{all-append, all-map-of}
+use Rattle.verdict.proofs.Elements.{all-append, all-map-of, all-or}
 use Rattle.frame.specs.declared.list.Transaction.{Transaction}
 use Rattle.frame.specs.Frame.{preamble, clocks, logRecord, logPartBytes}
 use Rattle.frame.specs.List.{mostTransactions, isRead, listVerdict, transactions}
@@ -31,7 +31,6 @@ use Rattle.machine.specs.Run.{mostSteps, stepFault, stepsVerdict, running, logO
 use Rattle.machine.specs.Plain.{planning}
 use Rattle.machine.proofs.RunLaws.{log-length}
 use Rattle.agreement.specs.Exchange.{answersOfExchange, physAfterExchange, Exchanged, Ready}
-use Rattle.agreement.proofs.Demand3.{all-or}
 
 -- every step of a translation is one of the four
 abbrev OneOfFour : ℕ → Type 0
@@ -68,7 +67,7 @@ four-steps t =
 
 pub step-of-four : (list : List ℕ) (k : ℕ) → stepFault (translation list) k ≡ 0
 step-of-four list k =
-    let small = all-or OneOfFour (translation list) 0 k (omega arith) (all-join OneOfFour (map stepsOf (transactions list)) (all-map-of (All OneOfFour) stepsOf (transactions list) four-steps)) in
+    let small = all-or OneOfFour (translation list) k 0 (omega arith) (all-join OneOfFour (map stepsOf (transactions list)) (all-map-of (All OneOfFour) stepsOf (transactions list) four-steps)) in
     rw (le-ltb 3 _ small)
 
 -- a room that is large enough

@@ -4,7 +4,7 @@ use mathlib.Core.Path.{_≡_, refl, ap, ap₂, _∙_}
 use mathlib.Core.Bool.{Bool, true, false, cond}
 use mathlib.Core.List.{List, [], _∷_, map}
 use Rattle.verdict.specs.Lists.{All, count}
-use Rattle.verdict.proofs.Elements.{all-map, map-then, map-past, count-kept}
+use Rattle.verdict.proofs.Elements.{all-map, map-past, count-kept}
 use Rattle.frame.specs.declared.list.Transaction.{Transaction}
 use Rattle.frame.specs.List.{isRead}
 use Rattle.frame.specs.Answers.{sent, answerTo}
@@ -12,9 +12,8 @@ use Rattle.wire.specs.declared.Follower.{Follower}
 use Rattle.wire.specs.declared.Header.{Header}
 use Rattle.wire.specs.Wire.{Party}
 use Rattle.wire.specs.Machines.{Core, headerFor, quiet, acting, beforeReads, beforeWrites, clocksWith, readOf, plainAnswer, leftByRead, leftByWrite, plainAfter, plainAnswers, plainParties}
-use Rattle.wire.proofs.Quiet.{quiet-map, quiet-stays, quiet-all, quiet-count}
+use Rattle.wire.proofs.Quiet.{quiet-map, quiet-all, quiet-count}
 use Rattle.agreement.specs.Follows.{Line, Keeps, Follows}
-use Rattle.agreement.proofs.Start.{follower-kept, captured-kept}
 
 module _ {P : Type 0} {wire : Party P} {core : Core P} {line : Line P} {Good : P → Type 0} (laws : Follows wire core line Good) where
   -- a transaction is some clocks, one of which has an effect: what is true of such is true of it
@@ -38,25 +37,6 @@ module _ {P : Type 0} {wire : Party P} {core : Core P} {line : Line P} {Good : P
       let events = quiet-count core (core .answers h) (λ c p. laws .keeps-events c .answers h p) in
       plain-acting (λ plain. (ps : List P) → count (core .answers h) (plain ps) ≡ count (core .answers h) ps)
       (λ effect keeps c a b ps. events (c + a) b (map effect (quiet core c a ps)) ∙ count-kept (core .answers h) effect (keeps .answers h) (quiet core c a ps) ∙ events c a ps)
-
-  -- what its effects and events leave a list leaves
-  plain-stays : {B : Type 0} (g : P → B) → ((effect : P → P) → Keeps wire core line Good effect → (p : P) → g (effect p) ≡ g p) →
-      (m n : ℕ) (ts : List Transaction) (c : ℕ) (ps : List P) → map g (plainParties core m n ts c ps) ≡ map g ps
-  unfolding plainParties
-  plain-stays g kept m n [] c ps = refl
-  plain-stays g kept m n (t ∷ ts) c ps =
-      plain-stays g kept n n ts (c + clocksWith m) (plainAfter core m t c ps)
-      ∙ plain-acting (λ plain. (ps : List P) → map g (plain ps) ≡ map g ps) (λ effect keeps c a b ps. events (c + a) b (map effect (quiet core c a ps)) ∙ map-then g effect g (kept effect keeps) (quiet core c a ps) ∙ events c a ps) m t c ps
-    where
-      events : (c n : ℕ) (ps : List P) → map g (quiet core c n ps) ≡ map g ps
-      events = quiet-stays core g (λ c. kept (core .happens c) (laws .keeps-events c))
-
-  -- "followers as they were"
-  pub followers-stay : (m n : ℕ) (ts : List Transaction) (c : ℕ) (ps : List P) → map (line .follower) (plainParties core m n ts c ps) ≡ map (line .follower) ps
-  followers-stay = plain-stays (line .follower) (follower-kept laws)
-
-  pub captured-stay : (m n : ℕ) (ts : List Transaction) (c : ℕ) (ps : List P) → map (line .captured) (plainParties core m n ts c ps) ≡ map (line .captured) ps
-  captured-stay = plain-stays (line .captured) (captured-kept laws)
 
   module _ (f : Follower) (w : ℕ) where
     events-put : (c n : ℕ) (ps : List P) → quiet core c n (map (line .put f w) ps) ≡ map (line .put f w) (quiet core c n ps)

@@ -1,9 +1,10 @@
 pub mod Laws
 pub mod Places
+pub mod EachPlace
 pub mod HappensEffect
 pub mod Happenings
+pub mod Changes
 pub mod Kept
-pub mod LogLevels
 pub mod Reading
 pub mod Transactions
 pub mod Transacts
@@ -15,3 +16,4 @@ pub mod Stands
 pub mod Accepts
 pub mod Begins
 pub mod RunLaws
+pub mod SoundBoards

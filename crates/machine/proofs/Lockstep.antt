@@ -4,18 +4,17 @@ use mathlib.Core.Path.{_≡_, refl, sym, ap, _∙_}
 use mathlib.Core.Bool.{Bool, true, false, cond}
 use mathlib.Core.List.{List, [], _∷_, _++_, map, map-append}
 use native.Mathlib.Omega.{arith}
-use lib.ListN.{length, take, length-map}
+use lib.ListN.{length, getD, take, length-map}
 use lib.Seq.{take-suc, take-length, length-take-le}
 use lib.Dec.{eqb}
 use Rattle.verdict.specs.File.{byteAt}
 use Rattle.verdict.specs.Output.{tabulate}
-use Rattle.verdict.proofs.Elements.{map-then}
-use Rattle.verdict.proofs.Lists.{map-tabulate}
+use Rattle.verdict.proofs.Lists.{getD-tabulate, map-tabulate}
 use Rattle.wire.specs.declared.Drive.{Drive}
 use Rattle.wire.specs.declared.Follower.{Follower}
 use Rattle.wire.specs.declared.Follower.the-variants.{Hunting, Inside}
 use Rattle.wire.specs.Follower.{oneMore, headerSeen}
-use Rattle.wire.specs.Wire.{Party, stationDrive, drivesOf, clocked, eventsAfter, runs, driven}
+use Rattle.wire.specs.Wire.{stationDrive, drivesOf, clocked, eventsAfter, runs, driven}
 use Rattle.wire.proofs.Runs.{runs-append, driven-append}
 use Rattle.phy.specs.declared.Phy.{Phy}
 use Rattle.phy.specs.Clock.{answers, word, afterHeader, atHeader, atFrame, acts, actsIn, clock}
@@ -25,16 +24,8 @@ use Rattle.phy.proofs.Keeping.{keeps-address}
 use Rattle.machine.specs.Events.{happens}
 use Rattle.machine.specs.Log.{clockRecord}
 use Rattle.machine.specs.Run.{addressesOf, partyWith, stationDrives}
+use Rattle.machine.proofs.EachPlace.{leaves-closed, each-leaves, runs-each}
 use Rattle.machine.proofs.HappensEffect.{happens-effect}
-
--- what every clock and every event keeps of a party, a run keeps of all
-pub runs-keep : {P X : Type 0} (party : Party P) (of : P → X) → ((level : Bool) (p : P) → of (party .samples level p) ≡ of p) → ((c : ℕ) (p : P) → of (party .happens c p) ≡ of p) → (ds : List Drive) (c : ℕ) (ps : List P) → map of (runs party ds c ps) ≡ map of ps
-unfolding runs
-runs-keep party of clocks events [] c ps = refl
-runs-keep party of clocks events (d ∷ ds) c ps =
-    runs-keep party of clocks events ds (suc c) (eventsAfter party (suc c) (clocked party d ps))
-    ∙ map-then of (party .happens (suc c)) of (events (suc c)) (clocked party d ps)
-    ∙ map-then of (party .samples _) of (clocks _) ps
 
 -- a clock and the events after it keep the address
 acts-address : (seen bits : ℕ) (phy : Phy) → acts seen bits phy .address ≡ phy .address
@@ -71,7 +62,9 @@ module _ (events steps : List ℕ) (start : List Phy) where
   drivesIn k = drivesOf (partyWith events) (stationIn k) (physAfter k)
 
   pub addresses-stay : (k : ℕ) → addressesOf (physAfter k) ≡ addressesOf start
-  addresses-stay k = runs-keep (partyWith events) (λ phy. phy .address) clock-address (happens-address events) (stationDrives (take k steps)) 0 start
+  addresses-stay k =
+      let address : Phy → ℕ = λ phy. phy .address in
+      each-leaves address (runs-each (leaves-closed address) (partyWith events) clock-address (happens-address events) (stationDrives (take k steps)) 0 start)
 
   pub length-stays : (k : ℕ) → length (physAfter k) ≡ length start
   length-stays k = sym (length-map (physAfter k) (λ phy. phy .address)) ∙ ap length (addresses-stay k) ∙ length-map start (λ phy. phy .address)
@@ -97,13 +90,18 @@ module _ (events steps : List ℕ) (start : List Phy) where
         ∙ driven-append (partyWith events) (stationDrives (take k steps)) (stationIn k ∷ []) 0 k start so-far
 
   -- the clocks of a log one by one
-  pub driven-by-clock : (k : ℕ) → k ≤ length steps → driven (partyWith events) (stationDrives (take k steps)) 0 start ≡ tabulate k drivesIn
+  driven-by-clock : (k : ℕ) → k ≤ length steps → driven (partyWith events) (stationDrives (take k steps)) 0 start ≡ tabulate k drivesIn
   unfolding tabulate driven
   driven-by-clock zero h = refl
   driven-by-clock (suc k) h = driven-next k (omega arith) ∙ ap (λ xss. xss ++ (drivesIn k ∷ [])) (driven-by-clock k (omega arith))
 
+  pub driven-all : driven (partyWith events) (stationDrives steps) 0 start ≡ tabulate (length steps) drivesIn
+  driven-all =
+      ap (λ ss. driven (partyWith events) (stationDrives ss) 0 start) (sym (take-length steps))
+      ∙ driven-by-clock (length steps) (omega arith)
+
+  pub driven-at : (k : ℕ) → k < length steps → getD (driven (partyWith events) (stationDrives steps) 0 start) k [] ≡ drivesIn k
+  driven-at k within = ap (λ clocks. getD clocks k []) driven-all ∙ getD-tabulate (length steps) drivesIn [] k within
+
   pub log-by-clock : (addresses : List ℕ) → map (clockRecord addresses) (driven (partyWith events) (stationDrives steps) 0 start) ≡ tabulate (length steps) (λ k. clockRecord addresses (drivesIn k))
-  log-by-clock addresses =
-      ap (λ ss. map (clockRecord addresses) (driven (partyWith events) (stationDrives ss) 0 start)) (sym (take-length steps))
-      ∙ ap (map (clockRecord addresses)) (driven-by-clock (length steps) (omega arith))
-      ∙ map-tabulate (clockRecord addresses) (length steps) drivesIn
+  log-by-clock addresses = ap (map (clockRecord addresses)) driven-all ∙ map-tabulate (clockRecord addresses) (length steps) drivesIn

@@ -1,5 +1,5 @@
 -- The PHYs of a board and the board with others in their places; and how a loop replaces one after the other.
-use Prim.Native.Nat.{ℕ, zero, suc, _+_, _<_}
+use Prim.Native.Nat.{ℕ, zero, suc, _+_, _≤_, _<_}
 use mathlib.Core.Path.{_≡_, refl, ap, _∙_}
 use mathlib.Core.List.{List, [], _∷_, _++_, map}
 use native.Mathlib.Omega.{arith}
@@ -22,6 +22,19 @@ module _ {A : Type 0} (f : A → A) where
   -- one more
   pub replace-next : (i : ℕ) (xs ys : List A) (d v : A) → i < length xs → ys ≡ replaced i xs → v ≡ f (getD ys i d) → set ys i v ≡ replaced (i + 1) xs
   replace-next i xs ys d v within so-far here = rw (here, so-far, add-one) (turn i xs d within)
+
+  -- what stands at a place afterwards
+  pub at-replaced : (n k : ℕ) (xs : List A) (d : A) → k < n → k < length xs → getD (replaced n xs) k d ≡ f (getD xs k d)
+  at-replaced n k [] d h l = absurd (omega arith)
+  at-replaced zero k (x ∷ xs) d h l = absurd (omega arith)
+  at-replaced (suc n) zero (x ∷ xs) d h l = refl
+  at-replaced (suc n) (suc k) (x ∷ xs) d h l = at-replaced n k xs d (omega arith) (omega arith)
+
+  pub past-replaced : (n k : ℕ) (xs : List A) (d : A) → n ≤ k → getD (replaced n xs) k d ≡ getD xs k d
+  past-replaced zero k xs d h = refl
+  past-replaced (suc n) k [] d h = refl
+  past-replaced (suc n) zero (x ∷ xs) d h = absurd (omega arith)
+  past-replaced (suc n) (suc k) (x ∷ xs) d h = past-replaced n k xs d (omega arith)
 
 module _ {A : Type 0} where
   -- where as many stand in front as n elements were, they are the first n, and the others are those after n

@@ -1,5 +1,5 @@
 -- What a run's log and board say, in the document's words.
-use Prim.Native.Nat.{ℕ, suc, _+_, _*_, _/_, _%_, _^_, _≤_, _<_}
+use Prim.Native.Nat.{ℕ, _+_, _*_, _/_, _%_, _^_, _≤_, _<_}
 use mathlib.Core.Path.{_≡_, refl, sym, ap, _∙_}
 use mathlib.Core.Bool.{Bool, true, false, _&&_, _||_, or-false}
 use mathlib.Core.List.{List, [], _∷_, _++_, map, map-append}
@@ -8,15 +8,14 @@ use native.Mathlib.Decide.{ℕ-discrete}
 use native.Mathlib.Nat.{zero-div}
 use lib.ListN.{length, getD, length-map}
 use lib.Dec.{eqb, leb}
-use borrow.Author.Tests.{eq-eqb, ne-eqb, le-leb, leb-true}
+use borrow.Author.Tests.{eq-eqb, ne-eqb, le-leb, lt-leb, leb-true}
 use Rattle.verdict.specs.Bits.{bit}
 use Rattle.verdict.specs.Lists.{All}
 use Rattle.verdict.specs.Output.{tabulate, join}
-use Rattle.verdict.proofs.Elements.{all-map}
 use Rattle.verdict.proofs.Lists.{length-pieces, getD-pieces, join-append}
 use Rattle.wire.specs.declared.Drive.{Drive}
 use Rattle.wire.specs.declared.Drive.the-variants.{Released, Driven}
-use Rattle.wire.specs.Wire.{Party, asBit, stationDrive, levelOf, drivers, clocked, eventsAfter, runs, driven}
+use Rattle.wire.specs.Wire.{asBit, stationDrive, levelOf, drivers, runs, driven}
 use Rattle.wire.proofs.Runs.{runs-append, driven-append}
 use Rattle.phy.specs.Abilities.{one}
 use Rattle.phy.specs.Words.{setBit}
@@ -26,12 +25,13 @@ use Rattle.phy.proofs.Keeping.{keeps-typed, clock-typed}
 use Rattle.board.specs.declared.Board.{Board}
 use Rattle.machine.specs.declared.Outcome.{Outcome}
 use Rattle.machine.specs.Outcome.{physOf}
-use Rattle.machine.specs.Events.{happens}
 use Rattle.machine.specs.Log.{isDriving, flagsOf, maskFrom, clockRecord}
 use Rattle.machine.specs.Run.{addressesOf, partyWith, stationDrives, atStart, physAfterRun, logOfRun, Ran}
-use Rattle.machine.proofs.Lockstep.{drivesIn, log-by-clock}
+use Rattle.machine.proofs.Lockstep.{physAfter, stationIn, drivesIn, log-by-clock}
 use Rattle.machine.proofs.Laws.{hands-back-unique}
 use Rattle.machine.proofs.HappensEffect.{happens-effect}
+use Rattle.machine.proofs.EachPlace.{keeps-closed, each-keeps}
+use Rattle.machine.proofs.Changes.{run-changes}
 
 -- two results that meet the promise of `run` are equal, as are the logs
 pub run-unique : (board : Board) (steps events log : List ℕ) {r s : Outcome} {log₁ log₂ : List ℕ} → Ran board steps events log r log₁ → Ran board steps events log s log₂ → (r ≡ s) × (log₁ ≡ log₂)
@@ -68,6 +68,16 @@ module _ (station : Drive) (drives : List Drive) where
       go : (b : Bool) → asBit b ≡ 1 → b ≡ true
       go true e = refl
       go false e = absurd (omega arith)
+
+  -- so the flags are below 4 where at most one drives
+  uncontended : drivers (station ∷ drives) ≤ 1 → flagsOf station drives < 4
+  uncontended few = rw (lt-leb 2 (drivers (station ∷ drives)) (omega arith)) (go (levelOf (station ∷ drives)) (isDriving station))
+    where
+      go : (a b : Bool) → asBit a * 1 + asBit b * 2 + 0 < 4
+      go true true = omega arith
+      go true false = omega arith
+      go false true = omega arith
+      go false false = omega arith
 
 -- The mask: "bit a set when the PHY at address a drives"
 pub drivesAt : ℕ → List ℕ → List Drive → Bool
@@ -134,6 +144,27 @@ module _ (board : Board) (steps events : List ℕ) where
   unfolding clockRecord
   log-byte k i h l = ap (λ xs. getD xs (k * 5 + i) 0) log-pieces ∙ getD-pieces 5 (length steps) recordIn (λ k. refl) 0 k i h l
 
+  -- the flags of clock k + 1, by what all parties do in it
+  module _ (k : ℕ) (within : k < length steps) where
+    abbrev station : Drive
+    station = stationIn events steps (atStart board events) k
+
+    abbrev others : List Drive
+    others = map (partyWith events .drives) (physAfter events steps (atStart board events) k)
+
+    flags-byte : getD (logOfRun board steps events) (k * 5) 0 ≡ getD (recordIn k) 0 0
+    flags-byte =
+        let place : k * 5 + 0 ≡ k * 5 = omega arith in
+        rw place at (log-byte k 0 within (omega arith))
+
+    pub log-level : bit 0 (getD (logOfRun board steps events) (k * 5) 0) ≡ asBit (levelOf (drivesIn events steps (atStart board events) k))
+    unfolding clockRecord
+    log-level = ap (bit 0) flags-byte ∙ level-flag station others
+
+    pub log-uncontended : drivers (drivesIn events steps (atStart board events) k) ≤ 1 → getD (logOfRun board steps events) (k * 5) 0 < 4
+    unfolding clockRecord
+    log-uncontended few = rw flags-byte (uncontended station others few)
+
 -- an empty run: only the events of clock 0 act
 module _ (board : Board) (events : List ℕ) where
   pub empty-run : physAfterRun board [] events ≡ atStart board events
@@ -167,16 +198,7 @@ module _ (board : Board) (events : List ℕ) where
         ∙ ap join (map-append rec first rest)
         ∙ join-append (map rec first) (map rec rest)
 
--- what every clock and every event keeps, a run keeps
-pub runs-keep-all : {P : Type 0} (party : Party P) (Q : P → Type 0) → ((level : Bool) (p : P) → Q p → Q (party .samples level p)) → ((c : ℕ) (p : P) → Q p → Q (party .happens c p)) → (ds : List Drive) (c : ℕ) (ps : List P) → All Q ps → All Q (runs party ds c ps)
-unfolding runs
-runs-keep-all party Q clocks events [] c ps all = all
-runs-keep-all party Q clocks events (d ∷ ds) c ps all =
-    runs-keep-all party Q clocks events ds (suc c) (eventsAfter party (suc c) (clocked party d ps))
-    (all-map Q Q (party .happens (suc c)) (clocked party d ps) (events (suc c)) (all-map Q Q (party .samples _) ps (clocks _) all))
-
 -- every field stays within its type
 pub run-typed : (board : Board) (steps events : List ℕ) → All Typed (physOf board) → All Typed (physAfterRun board steps events)
-run-typed board steps events typed =
-    runs-keep-all (partyWith events) Typed clock-typed (λ c. keeps-typed (happens-effect events c)) (stationDrives steps) 0 (atStart board events)
-    (all-map Typed Typed (happens events 0) (physOf board) (keeps-typed (happens-effect events 0)) typed)
+run-typed board steps events =
+    each-keeps Typed (run-changes (keeps-closed Typed) events (λ c. keeps-typed (happens-effect events c)) clock-typed board steps)

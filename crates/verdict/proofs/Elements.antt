@@ -1,5 +1,5 @@
 -- What is said of the elements of a list (`All`, `count`), element by element.
-use Prim.Native.Nat.{ℕ, suc, _≤_, _<_}
+use Prim.Native.Nat.{ℕ, zero, suc, _≤_, _<_}
 use mathlib.Core.Path.{_≡_, refl, ap₂, sym, _∙_}
 use mathlib.Core.Bool.{Bool, true, false, cond}
 use mathlib.Core.List.{List, [], _∷_, _++_, map}
@@ -21,6 +21,17 @@ module _ {A : Type 0} where
   pub all-places : (Q : A → Type 0) (xs : List A) (d : A) → ((i : ℕ) → i < length xs → Q (getD xs i d)) → All Q xs
   all-places Q [] d h = tt
   all-places Q (x ∷ xs) d h = (h 0 (omega arith), all-places Q xs d (λ i within. h (suc i) (omega arith)))
+
+  -- what holds of every element, at a place; and past the end, where it holds of the default
+  pub all-at : (Q : A → Type 0) (xs : List A) (i : ℕ) (d : A) → i < length xs → All Q xs → Q (getD xs i d)
+  all-at Q [] i d h all = absurd (omega arith)
+  all-at Q (x ∷ xs) zero d h all = all .0
+  all-at Q (x ∷ xs) (suc i) d h all = all-at Q xs i d (omega arith) (all .1)
+
+  pub all-or : (Q : A → Type 0) (xs : List A) (i : ℕ) (d : A) → Q d → All Q xs → Q (getD xs i d)
+  all-or Q [] i d base all = base
+  all-or Q (x ∷ xs) zero d base all = all .0
+  all-or Q (x ∷ xs) (suc i) d base all = all-or Q xs i d base (all .1)
 
   -- from one fact on every element to another
   pub all-then : (Q R : A → Type 0) (xs : List A) → ((x : A) → Q x → R x) → All Q xs → All R xs

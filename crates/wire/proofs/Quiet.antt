@@ -5,7 +5,7 @@ use mathlib.Core.Bool.{Bool}
 use mathlib.Core.List.{List, map}
 use native.Mathlib.Omega.{arith}
 use Rattle.verdict.specs.Lists.{All, count}
-use Rattle.verdict.proofs.Elements.{all-map, map-then, map-past, count-kept}
+use Rattle.verdict.proofs.Elements.{all-map, map-past, count-kept}
 use Rattle.wire.specs.Machines.{Core, quiet}
 
 module _ {P : Type 0} (core : Core P) where
@@ -31,12 +31,6 @@ module _ {P : Type 0} (core : Core P) where
   quiet-map f same c zero ps = refl
   quiet-map f same c (suc n) ps =
       ap (quiet core (suc c) n) (map-past f (core .happens (suc c)) (same (suc c)) ps) ∙ quiet-map f same (suc c) n (map (core .happens (suc c)) ps)
-
-  pub quiet-stays : {B : Type 0} (g : P → B) → ((c : ℕ) (p : P) → g (core .happens c p) ≡ g p) → (c n : ℕ) (ps : List P) → map g (quiet core c n ps) ≡ map g ps
-  unfolding quiet
-  quiet-stays g kept c zero ps = refl
-  quiet-stays g kept c (suc n) ps =
-      quiet-stays g kept (suc c) n (map (core .happens (suc c)) ps) ∙ map-then g (core .happens (suc c)) g (kept (suc c)) ps
 
   pub quiet-all : (Q : P → Type 0) → ((c : ℕ) (p : P) → Q p → Q (core .happens c p)) → (c n : ℕ) (ps : List P) → All Q ps → All Q (quiet core c n ps)
   unfolding quiet
