@@ -1,37 +1,38 @@
-// Files of any length, each in a buffer of one record more than is allowed.
+// The program's inputs, of any length, each read into a buffer of one record more than document 01 allows.
 ghost use mathlib.Core.Path.{_≡_};
-ghost use Prim.Native.Nat.{_≤_, _<_};
+ghost use Prim.Native.Nat.{_+_, _%_, _≤_, _<_};
 ghost use lib.ListN.{length};
+ghost use Rattle.io.specs.Counts.{Counts};
 
 // The buffers: 33 board records, 65 transactions, 257 events.
-pub fn for_board() -> [u8; 4422]
+pub(crate) fn for_board() -> [u8; 4422]
     ensures { λ r. ⌜ 4422 ≡ length r ⌝ }
 {
     [0; 4422]
 }
 
-pub fn for_list() -> [u8; 390]
+pub(crate) fn for_list() -> [u8; 390]
     ensures { λ r. ⌜ 390 ≡ length r ⌝ }
 {
     [0; 390]
 }
 
-pub fn for_events() -> [u8; 1028]
+pub(crate) fn for_events() -> [u8; 1028]
     ensures { λ r. ⌜ 1028 ≡ length r ⌝ }
 {
     [0; 1028]
 }
 
-// How far `rest` and `got` more bytes go past the last whole record.
-fn past(rest: usize, got: usize, size: usize) -> usize
+// How far `rest` bytes and `more` go past the last whole record; the sum itself need not fit.
+fn past(rest: usize, more: usize, size: usize) -> usize
     requires { ⌜ (0 < size) × (size < 1000) ⌝ }
-    ensures { λ r. ⌜ r < size ⌝ }
+    ensures { λ r. ⌜ r ≡ (rest + more) % size ⌝ }
 {
-    (rest % size + got % size) % size
+    (rest % size + more % size) % size
 }
 
 // How far the rest of an input goes past its last whole record. It is read to its end, or for as many reads as a u64
-// counts.
+// counts, which no input lives to see.
 fn rest_of(fd: i32, size: usize) -> usize
     requires { ⌜ (0 < size) × (size < 1000) ⌝ }
     ensures { λ r. ⌜ r < size ⌝ }
@@ -41,22 +42,22 @@ fn rest_of(fd: i32, size: usize) -> usize
     let mut rest: usize = 0;
     let mut left: u64 = 18446744073709551615;
     while left > 0 {
-        let got = io::read_full(fd, chunk);
-        if got == 0 {
+        let more = io::read_full(fd, chunk);
+        if more == 0 {
             return rest;
         }
-        rest = past(rest, got, size);
+        rest = past(rest, more, size);
         left -= 1;
     }
     rest
 }
 
-// How many of the buffer's bytes stand for an input of records of this size. One that fills the buffer has too many
-// records or no whole number of them, whatever its bytes: as many bytes as are refused with the same number stand for it.
+// Reads an input of records of a size, and answers how many of the buffer's bytes stand for it. An input that fills the
+// buffer is refused whatever its bytes: by 1 if its length is no whole number of records, else by 2. So many of its first
+// bytes stand for it as are refused by the same number.
 pub(crate) fn of(fd: i32, buffer: &mut [u8], size: usize) -> usize
-    requires { ⌜ (0 < size) × (size < 1000) ⌝ }
-    requires { ⌜ size ≤ length (now buffer) ⌝ }
-    ensures { λ r. ⌜ r ≤ length (now (buffer .exit)) ⌝ }
+    requires { ⌜ (0 < size) × (size < 1000) × (size ≤ length (now buffer)) ⌝ }
+    ensures { λ r. ⌜ Counts r (now (buffer .exit)) ⌝ }
 {
     let kept = io::read_full(fd, buffer);
     if kept < buffer.len() {
@@ -71,9 +72,8 @@ pub(crate) fn of(fd: i32, buffer: &mut [u8], size: usize) -> usize
 
 // The same for a file of the folder; one that can't be opened counts as empty.
 pub(crate) fn of_file(name: &[u8], buffer: &mut [u8], size: usize) -> usize
-    requires { ⌜ (0 < size) × (size < 1000) ⌝ }
-    requires { ⌜ size ≤ length (now buffer) ⌝ }
-    ensures { λ r. ⌜ r ≤ length (now (buffer .exit)) ⌝ }
+    requires { ⌜ (0 < size) × (size < 1000) × (size ≤ length (now buffer)) ⌝ }
+    ensures { λ r. ⌜ Counts r (now (buffer .exit)) ⌝ }
 {
     let fd = os::open_read(name);
     if fd < 0 {

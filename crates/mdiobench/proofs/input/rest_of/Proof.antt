@@ -1,6 +1,7 @@
 -- Each turn spends one of the reads that are left.
 use Prim.Native.Nat.{_<_}
 use native.Mathlib.Omega.{arith}
+use native.Mathlib.Nat.{mod-lt}
 use Rattle.mdiobench.proofs.input.rest_of.Statement.{statement}
 use Rattle.mdiobench.proofs.input.rest_of.Tie as tie
 
@@ -35,7 +36,7 @@ loop-less : tie.Need-loop-less Inv-loop μ-loop
 loop-less c = omega arith
 
 loop-again : tie.Need-loop-again Inv-loop μ-loop
-loop-again c = c .past .ensures
+loop-again c = rw (c .past .ensures) (mod-lt _ (omega arith))
 
 returns-2 : tie.Need-returns-2 Inv-loop μ-loop
 returns-2 c = c .before .before .loop .inv
