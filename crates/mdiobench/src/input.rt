@@ -5,19 +5,19 @@ ghost use lib.ListN.{length};
 ghost use Rattle.io.specs.Counts.{Counts};
 
 // The buffers: 33 board records, 65 transactions, 257 events.
-pub(crate) fn for_board() -> [u8; 4422]
+pub(crate) fn room_for_board() -> [u8; 4422]
     ensures { λ r. ⌜ 4422 ≡ length r ⌝ }
 {
     [0; 4422]
 }
 
-pub(crate) fn for_list() -> [u8; 390]
+pub(crate) fn room_for_list() -> [u8; 390]
     ensures { λ r. ⌜ 390 ≡ length r ⌝ }
 {
     [0; 390]
 }
 
-pub(crate) fn for_events() -> [u8; 1028]
+pub(crate) fn room_for_events() -> [u8; 1028]
     ensures { λ r. ⌜ 1028 ≡ length r ⌝ }
 {
     [0; 1028]
@@ -25,7 +25,7 @@ pub(crate) fn for_events() -> [u8; 1028]
 
 // How far `rest` bytes and `more` go past the last whole record; the sum itself need not fit.
 fn past(rest: usize, more: usize, size: usize) -> usize
-    requires { ⌜ (0 < size) × (size < 1000) ⌝ }
+    requires { ⌜ (0 < size) × (size ≤ 134) ⌝ }
     ensures { λ r. ⌜ r ≡ (rest + more) % size ⌝ }
 {
     (rest % size + more % size) % size
@@ -34,7 +34,7 @@ fn past(rest: usize, more: usize, size: usize) -> usize
 // How far the rest of an input goes past its last whole record. It is read to its end, or for as many reads as a u64
 // counts, which no input lives to see.
 fn rest_of(fd: i32, size: usize) -> usize
-    requires { ⌜ (0 < size) × (size < 1000) ⌝ }
+    requires { ⌜ (0 < size) × (size ≤ 134) ⌝ }
     ensures { λ r. ⌜ r < size ⌝ }
 {
     let mut space = io::large_buffer();
@@ -55,8 +55,8 @@ fn rest_of(fd: i32, size: usize) -> usize
 // Reads an input of records of a size, and answers how many of the buffer's bytes stand for it. An input that fills the
 // buffer is refused whatever its bytes: by 1 if its length is no whole number of records, else by 2. So many of its first
 // bytes stand for it as are refused by the same number.
-pub(crate) fn of(fd: i32, buffer: &mut [u8], size: usize) -> usize
-    requires { ⌜ (0 < size) × (size < 1000) × (size ≤ length (now buffer)) ⌝ }
+pub(crate) fn read(fd: i32, buffer: &mut [u8], size: usize) -> usize
+    requires { ⌜ (0 < size) × (size ≤ 134) × (size ≤ length (now buffer)) ⌝ }
     ensures { λ r. ⌜ Counts r (now (buffer .exit)) ⌝ }
 {
     let kept = io::read_full(fd, buffer);
@@ -71,15 +71,15 @@ pub(crate) fn of(fd: i32, buffer: &mut [u8], size: usize) -> usize
 }
 
 // The same for a file of the folder; one that can't be opened counts as empty.
-pub(crate) fn of_file(name: &[u8], buffer: &mut [u8], size: usize) -> usize
-    requires { ⌜ (0 < size) × (size < 1000) × (size ≤ length (now buffer)) ⌝ }
+pub(crate) fn read_file(name: &[u8], buffer: &mut [u8], size: usize) -> usize
+    requires { ⌜ (0 < size) × (size ≤ 134) × (size ≤ length (now buffer)) ⌝ }
     ensures { λ r. ⌜ Counts r (now (buffer .exit)) ⌝ }
 {
     let fd = os::open_read(name);
     if fd < 0 {
         return 0;
     }
-    let bytes = of(fd, buffer, size);
+    let bytes = read(fd, buffer, size);
     libc::close(fd);
     bytes
 }

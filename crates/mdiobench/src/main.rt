@@ -11,7 +11,8 @@ use libc::STDIN_FILENO;
 use machine::plain;
 use verdict::Verdict;
 
-// The files are checked in the order board, list, events; once board and list have passed only the events can be refused.
+// The files are checked in the order board, list, events. Where board and list have passed, the board is sound and there is
+// room for every answer, so that only the events can be refused.
 fn bench(board_file: &[u8], list: &[u8], events: &[u8]) {
     let loaded = load(board_file);
     let verdict = loaded.verdict;
@@ -22,7 +23,7 @@ fn bench(board_file: &[u8], list: &[u8], events: &[u8]) {
     let Verdict::Done(count) = listed else {
         return report::refusal(listed, b"list");
     };
-    let mut answers = report::room();
+    let mut answers = report::room_for_answers();
     let outcome = plain(loaded.board, list, events, &mut answers);
     let verdict = outcome.verdict;
     let Verdict::Done(_) = verdict else {
@@ -32,12 +33,12 @@ fn bench(board_file: &[u8], list: &[u8], events: &[u8]) {
 }
 
 fn main() {
-    let mut board_file = input::for_board();
-    let board_bytes = input::of_file(b"board.rec", &mut board_file, Board::RECORD);
-    let mut list = input::for_list();
-    let list_bytes = input::of(STDIN_FILENO, &mut list, Transaction::BYTES);
-    let mut events = input::for_events();
-    let event_bytes = input::of_file(b"events.rec", &mut events, Board::EVENT_RECORD);
+    let mut board_file = input::room_for_board();
+    let board_bytes = input::read_file(b"board.rec", &mut board_file, Board::RECORD);
+    let mut list = input::room_for_list();
+    let list_bytes = input::read(STDIN_FILENO, &mut list, Transaction::BYTES);
+    let mut events = input::room_for_events();
+    let event_bytes = input::read_file(b"events.rec", &mut events, Board::EVENT_RECORD);
     bench(
         &board_file[..board_bytes],
         &list[..list_bytes],

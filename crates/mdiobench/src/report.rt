@@ -12,7 +12,7 @@ ghost use lib.ListN.{length};
 ghost use Rattle.mdiobench.specs.Line.{digitOf, letterOf, answerAt, afterOrdinal};
 
 // Room for the answers to as many transactions as a list may have.
-pub(crate) fn room() -> [u8; 384]
+pub(crate) fn room_for_answers() -> [u8; 384]
     ensures { λ r. ⌜ 384 ≡ length r ⌝ }
 {
     [0; 384]

@@ -41,8 +41,8 @@ refusal-requires-2 c κs = search needs
 returns-2 : tie.Need-returns-2
 returns-2 c = search needs
 
-room-requires : tie.Need-room-requires
-room-requires c κs = search needs
+room-for-answers-requires : tie.Need-room-for-answers-requires
+room-for-answers-requires c κs = search needs
 
 slice-aggregate-plain : tie.Need-slice-aggregate-plain
 slice-aggregate-plain c = search needs
@@ -92,7 +92,7 @@ bench-spec =
     slice-aggregate-refusal-2
     refusal-requires-2
     returns-2
-    room-requires
+    room-for-answers-requires
     slice-aggregate-plain
     plain-requires
     enum-told-4

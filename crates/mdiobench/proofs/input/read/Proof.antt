@@ -1,8 +1,8 @@
 -- Each answer is at most the buffer's length.
 use Rattle.io.proofs.Counting.{counts}
 use borrow.Author.Needs.{needs}
-use Rattle.mdiobench.proofs.input.of.Statement.{statement}
-use Rattle.mdiobench.proofs.input.of.Tie as tie
+use Rattle.mdiobench.proofs.input.read.Statement.{statement}
+use Rattle.mdiobench.proofs.input.read.Tie as tie
 
 read-full-requires : tie.Need-read-full-requires
 read-full-requires c κs = search needs
@@ -34,8 +34,8 @@ same-length-3 c = search needs
 returns-3 : tie.Need-returns-3
 returns-3 c = counts _ _ (search needs)
 
-pub of-spec : {M : Type 1} → statement M
-of-spec =
+pub read-spec : {M : Type 1} → statement M
+read-spec =
     tie.close
     (tie.spec
     read-full-requires
