@@ -6,6 +6,7 @@ use mathlib.Core.List.{List, [], _∷_}
 use lib.Dec.{eqb, ltb}
 use Rattle.verdict.specs.File.{byteAt, wordAt}
 use Rattle.frame.specs.declared.answer.Answer.{Answer}
+use Rattle.frame.specs.List.{read}
 use Rattle.frame.specs.Answers.{answerRecord}
 
 -- the answer at an index of the answers' bytes
@@ -25,13 +26,13 @@ space = 32
 abbrev pub newline : ℕ
 newline = 10
 
--- 0 to 9, then A to F
+-- the character of a digit: 0 to 9, then A to F
 unfoldable pub digitOf : ℕ → ℕ
 digitOf d = cond (ltb d 10) (48 + d) (65 + (d - 10))
 
 -- R for a read, else W
 unfoldable pub letterOf : ℕ → ℕ
-letterOf op = cond (eqb op 2) 82 87
+letterOf op = cond (eqb op read) 82 87
 
 -- an answer's line after its ordinal
 unfoldable pub afterOrdinal : Answer → List ℕ

@@ -3,6 +3,7 @@ ghost use mathlib.Core.Path.{_≡_};
 ghost use Prim.Native.Nat.{_+_, _%_, _≤_, _<_};
 ghost use lib.ListN.{length};
 ghost use Rattle.io.specs.Counts.{Counts};
+ghost use Rattle.mdiobench.specs.Input.{standIn};
 
 // The buffers: 33 board records, 65 transactions, 257 events.
 pub(crate) fn room_for_board() -> [u8; 4422]
@@ -52,9 +53,15 @@ fn rest_of(fd: i32, size: usize) -> usize
     rest
 }
 
-// Reads an input of records of a size, and answers how many of the buffer's bytes stand for it. An input that fills the
-// buffer is refused whatever its bytes: by 1 if its length is no whole number of records, else by 2. So many of its first
-// bytes stand for it as are refused by the same number.
+// How many bytes of a full buffer stand for an input that goes on after it: as many as are refused by the same number.
+fn stand_in(room: usize, size: usize, past: usize) -> usize
+    requires { ⌜ (size ≤ room) × (past < size) ⌝ }
+    ensures { λ r. ⌜ r ≡ standIn room size past ⌝ }
+{
+    if past == 0 { room } else { room - size + past }
+}
+
+// Reads an input of records of a size, and answers how many of the buffer's bytes stand for it.
 pub(crate) fn read(fd: i32, buffer: &mut [u8], size: usize) -> usize
     requires { ⌜ (0 < size) × (size ≤ 134) × (size ≤ length (now buffer)) ⌝ }
     ensures { λ r. ⌜ Counts r (now (buffer .exit)) ⌝ }
@@ -63,11 +70,7 @@ pub(crate) fn read(fd: i32, buffer: &mut [u8], size: usize) -> usize
     if kept < buffer.len() {
         return kept;
     }
-    let rest = rest_of(fd, size);
-    if rest == 0 {
-        return buffer.len();
-    }
-    buffer.len() - size + rest
+    stand_in(buffer.len(), size, rest_of(fd, size))
 }
 
 // The same for a file of the folder; one that can't be opened counts as empty.

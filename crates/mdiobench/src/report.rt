@@ -9,6 +9,7 @@ use verdict::word_at;
 ghost use mathlib.Core.Path.{_≡_};
 ghost use Prim.Native.Nat.{_<_, _≤_};
 ghost use lib.ListN.{length};
+ghost use Rattle.frame.specs.List.{mostTransactions};
 ghost use Rattle.mdiobench.specs.Line.{digitOf, letterOf, answerAt, afterOrdinal};
 
 // Room for the answers to as many transactions as a list may have.
@@ -37,7 +38,7 @@ fn letter(op: u8) -> u8
 
 // The answer at an index of the output.
 fn answer_at(answers: &[u8], k: usize) -> Answer
-    requires { ⌜ k < 64 ⌝ }
+    requires { ⌜ k < mostTransactions ⌝ }
     ensures { λ r. ⌜ r ≡ answerAt (now (answers .entry)) k ⌝ }
 {
     let at = k * Answer::BYTES;
@@ -80,7 +81,7 @@ fn after_ordinal(answer: Answer) -> [u8; 16]
 
 // The lines of the first `count` answers.
 pub(crate) fn answers(records: &[u8], count: usize)
-    requires { ⌜ count ≤ 64 ⌝ }
+    requires { ⌜ count ≤ mostTransactions ⌝ }
 {
     let mut k = 0;
     while k < count {
