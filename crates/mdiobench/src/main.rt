@@ -1,0 +1,47 @@
+// The bench's program (document 01: "The program takes the list on standard input, and `board.rec` and `events.rec` from its
+// directory"). It sends the list over the wire, and prints an answer a line, or one refusal.
+mod input;
+mod report;
+
+use agreement::exchange;
+use board::Board;
+use board::load;
+use frame::Transaction;
+use frame::check_list;
+use libc::STDIN_FILENO;
+use verdict::Verdict;
+
+// The files are checked in the order board, list, events. Where board and list have passed, the board is sound and there is
+// room for every answer, so that only the events can be refused.
+fn bench(board_file: &[u8], list: &[u8], events: &[u8]) {
+    let loaded = load(board_file);
+    let verdict = loaded.verdict;
+    let Verdict::Done(_) = verdict else {
+        return report::refusal(verdict, b"board");
+    };
+    let listed = check_list(list);
+    let Verdict::Done(count) = listed else {
+        return report::refusal(listed, b"list");
+    };
+    let mut answers = report::room_for_answers();
+    let outcome = exchange(loaded.board, list, events, &mut answers);
+    let verdict = outcome.verdict;
+    let Verdict::Done(_) = verdict else {
+        return report::refusal(verdict, b"events");
+    };
+    report::answers(&answers, count);
+}
+
+fn main() {
+    let mut board_file = input::room_for_board();
+    let board_bytes = input::read_file(b"board.rec", &mut board_file, Board::RECORD);
+    let mut list = input::room_for_list();
+    let list_bytes = input::read(STDIN_FILENO, &mut list, Transaction::BYTES);
+    let mut events = input::room_for_events();
+    let event_bytes = input::read_file(b"events.rec", &mut events, Board::EVENT_RECORD);
+    bench(
+        &board_file[..board_bytes],
+        &list[..list_bytes],
+        &events[..event_bytes],
+    );
+}
