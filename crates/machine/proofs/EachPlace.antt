@@ -6,11 +6,19 @@ use mathlib.Core.List.{List, [], _∷_, map}
 use Rattle.verdict.specs.Lists.{All}
 use Rattle.verdict.proofs.Elements.{all-map, map-then, map-stays}
 use Rattle.frame.specs.declared.list.Transaction.{Transaction}
-use Rattle.frame.specs.List.{isRead}
+use Rattle.frame.specs.List.{isRead, transactions}
+use Rattle.frame.specs.Frame.{preamble}
 use Rattle.wire.specs.declared.Drive.{Drive}
 use Rattle.wire.specs.declared.Header.{Header}
 use Rattle.wire.specs.Wire.{Party, runs}
 use Rattle.wire.specs.Machines.{Core, headerFor, beforeReads, beforeWrites, clocksWith, quiet, acting, leftByRead, leftByWrite, plainAfter, plainParties}
+use Rattle.phy.specs.declared.Phy.{Phy}
+use Rattle.phy.specs.Clock.{afterHeader, afterFrame, clock}
+use Rattle.board.specs.declared.Board.{Board}
+use Rattle.machine.specs.Outcome.{physOf}
+use Rattle.machine.specs.Events.{happens}
+use Rattle.machine.specs.Run.{partyWith, stationDrives, physAfterRun}
+use Rattle.machine.specs.Plain.{coreWith, physAfterPlain}
 
 module _ {P : Type 0} (Q : (P → P) → Type 0) where
   -- doing nothing has the property, and so has one change after another
@@ -99,3 +107,15 @@ module _ {P : Type 0} {Q : (P → P) → Type 0} (closed : Closed Q) where
     unfolding plainParties
     plain-each m n [] c ps = each-none ps
     plain-each m n (t ∷ ts) c ps = each-then (after-each m t c ps) (plain-each n n ts (c + clocksWith m) _)
+
+-- Of a board: first the events of clock 0, then the machine's own clocks
+module _ {Q : (Phy → Phy) → Type 0} (closed : Closed Q) (events : List ℕ) (happenings : (c : ℕ) → Q (happens events c)) where
+  -- a run, by what a clock does
+  pub run-changes : ((level : Bool) → Q (clock level)) → (board : Board) (steps : List ℕ) → Each Q (physOf board) (physAfterRun board steps events)
+  run-changes clocks board steps =
+      each-next closed (happenings 0) (runs-each closed (partyWith events) clocks happenings (stationDrives steps) 0 _)
+
+  -- the plain machine, by what a header and a frame's end do
+  pub plain-changes : ((header : Header) → Q (afterHeader header)) → ((header : Header) (word : ℕ) → Q (afterFrame header word)) → (board : Board) (list : List ℕ) → Each Q (physOf board) (physAfterPlain board list events)
+  plain-changes headers frames board list =
+      each-next closed (happenings 0) (plain-each closed (coreWith events) happenings headers frames preamble preamble (transactions list) 0 _)

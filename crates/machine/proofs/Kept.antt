@@ -9,9 +9,8 @@ use Rattle.phy.proofs.Keeping.{keeps-follower, keeps-captured, keeps-typed}
 use Rattle.board.specs.declared.Board.{Board}
 use Rattle.machine.specs.Outcome.{physOf}
 use Rattle.machine.specs.Plain.{physAfterPlain}
-use Rattle.machine.proofs.EachPlace.{Each, each-as, each-leaves, each-keeps}
+use Rattle.machine.proofs.EachPlace.{Each, each-as, each-leaves, each-keeps, plain-changes}
 use Rattle.machine.proofs.HappensEffect.{effects-closed, happens-effect}
-use Rattle.machine.proofs.Changes.{plain-changes}
 
 module _ (board : Board) (list events : List ℕ) where
   -- what the plain machine leaves of a board is one effect on each of its PHYs

@@ -3,7 +3,6 @@ pub mod Places
 pub mod EachPlace
 pub mod HappensEffect
 pub mod Happenings
-pub mod Changes
 pub mod Kept
 pub mod Reading
 pub mod Transactions

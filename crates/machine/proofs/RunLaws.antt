@@ -30,8 +30,7 @@ use Rattle.machine.specs.Run.{addressesOf, partyWith, stationDrives, atS
 use Rattle.machine.proofs.Lockstep.{physAfter, stationIn, drivesIn, log-by-clock}
 use Rattle.machine.proofs.Laws.{hands-back-unique}
 use Rattle.machine.proofs.HappensEffect.{happens-effect}
-use Rattle.machine.proofs.EachPlace.{keeps-closed, each-keeps}
-use Rattle.machine.proofs.Changes.{run-changes}
+use Rattle.machine.proofs.EachPlace.{keeps-closed, each-keeps, run-changes}
 
 -- two results that meet the promise of `run` are equal, as are the logs
 pub run-unique : (board : Board) (steps events log : List ℕ) {r s : Outcome} {log₁ log₂ : List ℕ} → Ran board steps events log r log₁ → Ran board steps events log s log₂ → (r ≡ s) × (log₁ ≡ log₂)

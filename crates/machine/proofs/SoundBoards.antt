@@ -30,9 +30,8 @@ use Rattle.machine.specs.Run.{physAfterRun, Ran}
 use Rattle.machine.specs.Plain.{physAfterPlain, Planned}
 use Rattle.machine.proofs.Places.{at-replaced, past-replaced}
 use Rattle.machine.proofs.Turns.{length-replaced}
-use Rattle.machine.proofs.EachPlace.{Closed, Each, closed-by}
+use Rattle.machine.proofs.EachPlace.{Closed, Each, closed-by, run-changes, plain-changes}
 use Rattle.machine.proofs.HappensEffect.{happens-by}
-use Rattle.machine.proofs.Changes.{run-changes, plain-changes}
 use Rattle.machine.proofs.Lockstep.{clock-address}
 
 -- One PHY: it keeps its address, and if it was sound it still is
