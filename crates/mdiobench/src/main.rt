@@ -12,7 +12,7 @@ use libc::STDIN_FILENO;
 use verdict::Verdict;
 
 // The files are checked in the order board, list, events. Where board and list have passed, the board is sound and there is
-// room for every answer, so that only the events can be refused.
+// room for every answer, so that only the events can be refused (`only-events`).
 fn bench(board_file: &[u8], list: &[u8], events: &[u8]) {
     let loaded = load(board_file);
     let verdict = loaded.verdict;
