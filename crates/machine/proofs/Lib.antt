@@ -12,6 +12,7 @@ pub mod Turns
 pub mod Lockstep
 pub mod Quiet
 pub mod Stands
+pub mod Alike
 pub mod Accepts
 pub mod Begins
 pub mod RunLaws

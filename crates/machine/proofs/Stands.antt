@@ -31,7 +31,7 @@ use Rattle.machine.proofs.Turns.{within, rejoined}
 use Rattle.machine.proofs.Quiet.{bare, put-back, quiet-line, quiet-bare}
 use Rattle.machine.proofs.Lockstep.{physAfter, drivesIn, length-stays, phys-next}
 
-take-map : {A B : Type 0} (f : A → B) (n : ℕ) (xs : List A) → take n (map f xs) ≡ map f (take n xs)
+pub take-map : {A B : Type 0} (f : A → B) (n : ℕ) (xs : List A) → take n (map f xs) ≡ map f (take n xs)
 take-map f zero xs = refl
 take-map f (suc n) [] = refl
 take-map f (suc n) (x ∷ xs) = ap (λ ys. f x ∷ ys) (take-map f n xs)

@@ -4,7 +4,9 @@ ghost use Prim.Native.Nat.{_≤_, _<_};
 ghost use Rattle.phy.specs.Fields.{withLine};
 ghost use mathlib.Core.List.{map};
 ghost use Rattle.wire.specs.Follower.{answering};
+ghost use Rattle.machine.specs.Common.{standing};
 ghost use Rattle.machine.specs.Lines.{lineOf, lineAnswers, lineDrives, isOwn, lineActs, captures, lineFollows, joinedBoard};
+use crate::common::Common;
 use board::Board;
 use frame::Transaction;
 use phy::Phy;
@@ -180,15 +182,15 @@ pub(crate) fn lines_of(board: Board) -> [Line; 32]
     lines
 }
 
-// The board with its lines put back.
-pub(crate) fn join_all(mut board: Board, lines: [Line; 32]) -> Board
+// The board with its lines put back, as they stand.
+pub(crate) fn join_all(mut board: Board, lines: [Line; 32], common: Common) -> Board
     requires { ⌜ board .count ≤ 32 ⌝ }
-    ensures { λ r. ⌜ r ≡ joinedBoard lines board ⌝ }
+    ensures { λ r. ⌜ r ≡ joinedBoard (standing common lines) board ⌝ }
 {
     let count = board.count;
     let mut i: usize = 0;
     while i < count {
-        let line = lines[i];
+        let line = common.stands(lines[i]);
         let phy = line.onto(board.phys[i]);
         board.phys[i] = phy;
         i += 1;
