@@ -11,6 +11,7 @@ pub mod Lines
 pub mod Turns
 pub mod Lockstep
 pub mod Quiet
+pub mod HappensLine
 pub mod Stands
 pub mod Alike
 pub mod Accepts

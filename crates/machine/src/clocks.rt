@@ -10,6 +10,7 @@ ghost use Rattle.machine.specs.Clocks.{Clocked};
 use crate::Outcome;
 use crate::common::Common;
 use crate::events::happen_until;
+use crate::hear::Heard;
 use crate::hear::hear;
 use crate::hear::station_drive;
 use crate::line::Line;
@@ -63,7 +64,8 @@ fn is_due(events: &[u8], next: usize, clock: usize) -> bool
 
 // All clocks of a run that is not refused. Where the followers of all PHYs are alike a clock moves the common one; else it
 // goes over the lines. That loop stays inside the loop over the clocks: a board that goes into and out of a call at every
-// clock would take five times as long. A whole PHY is touched only where it may act, and the board only where an event is due.
+// clock would take five times as long. A whole PHY is touched only where it may act or has an event, and an event leaves its
+// line.
 fn clock_by_clock(board: Board, steps: &[u8], events: &[u8], log: &mut [u8]) -> Board
     requires { ⌜ running board (now steps) (now events) (now log) ≡ Done (length (now steps) * logRecord) ⌝ }
     ensures { λ r. ⌜ Clocked board (now (steps .entry)) (now (events .entry)) (now (log .entry)) r (now (log .exit)) ⌝ }
@@ -76,7 +78,12 @@ fn clock_by_clock(board: Board, steps: &[u8], events: &[u8], log: &mut [u8]) -> 
     let mut common = Common::apart();
     let mut c: usize = 0;
     while c < steps.len() {
-        let heard = hear(lines, common, count, station_drive(steps[c]));
+        let drive = station_drive(steps[c]);
+        let heard = if common.is_silent() {
+            Heard::station(drive)
+        } else {
+            hear(lines, common, count, drive)
+        };
         let at = c * Frame::LOG_RECORD;
         let end = at + Frame::LOG_RECORD;
         heard.put(&mut log[at..end]);
@@ -103,12 +110,9 @@ fn clock_by_clock(board: Board, steps: &[u8], events: &[u8], log: &mut [u8]) -> 
         }
         common = gathered;
         if due {
-            let happened = happen_until(join_all(now, lines, common), events, next, c);
+            let happened = happen_until(now, events, next, c);
             now = happened.board;
             next = happened.next;
-            let taken = lines_of(now);
-            lines = taken;
-            common = Common::apart();
         }
     }
     join_all(now, lines, common)

@@ -45,7 +45,7 @@ impl Heard {
     pub(crate) const SEVERAL: u8 = 4;
 
     // The station alone.
-    fn station(drive: Drive) -> Heard
+    pub(crate) fn station(drive: Drive) -> Heard
         ensures { λ r. ⌜ r ≡ heardStation drive ⌝ }
     {
         match drive {
@@ -111,9 +111,6 @@ pub(crate) fn hear(lines: [Line; 32], common: Common, count: usize, drive: Drive
     ensures { λ r. ⌜ r ≡ heardFrom (heardStation drive) (take count (standing common lines)) ⌝ }
 {
     let mut heard = Heard::station(drive);
-    if common.is_silent() {
-        return heard;
-    }
     let mut i: usize = 0;
     while i < count {
         let line = common.stands(lines[i]);

@@ -7,7 +7,7 @@ use native.Mathlib.Omega.{arith}
 use native.Mathlib.Numerals.{add-one}
 use borrow.Rule.Slice.PartMut.{putMid}
 use mathlib.Core.Logic.{⊎-elim}
-use lib.ListN.{length, getD, set, length-map, length-set}
+use lib.ListN.{length, getD, set, take, length-map, length-set}
 use borrow.Author.Needs.{needs}
 use Rattle.verdict.specs.File.{byteAt}
 use Rattle.verdict.proofs.Outputs.{pieced}
@@ -21,7 +21,7 @@ use Rattle.machine.specs.declared.line.Line.{Line}
 use Rattle.machine.specs.declared.hear.Heard.{Heard}
 use Rattle.machine.specs.declared.events.Happened.{Happened}
 use Rattle.machine.specs.Outcome.{physOf}
-use Rattle.machine.specs.Lines.{noLine, onto, lineActs, lineFollows, joinedBoard, isDue}
+use Rattle.machine.specs.Lines.{noLine, onto, lineActs, lineFollows, heardStation, heardFrom}
 use Rattle.machine.specs.Common.{stands, standing}
 use Rattle.machine.proofs.Places.{replaced, replace-next}
 use Rattle.machine.proofs.Turns.{length-replaced, replaced-all}
@@ -29,7 +29,7 @@ use Rattle.machine.proofs.Lockstep.{drivesIn}
 use Rattle.machine.proofs.Accepts.{Goes, goes}
 use Rattle.machine.proofs.Stands.{Shows, turn-acts, turn-follows, phys, piece, Stands, length-is, undue, happening}
 use Rattle.machine.proofs.Begins.{Begun, begins, start-count, start-full, lines-small, log-long, level-is, put-is, ends}
-use Rattle.machine.proofs.Alike.{standing-apart, all-follow, mixed, mixed-at, mixed-set, Gathered, gathered-next, gathered-all, lines-reach}
+use Rattle.machine.proofs.Alike.{standing-apart, hears-silent, all-follow, mixed, mixed-at, mixed-set, Gathered, gathered-next, gathered-all, lines-reach}
 use Rattle.machine.proofs.clocks.clock_by_clock.Statement.{statement}
 use Rattle.machine.proofs.clocks.clock_by_clock.Tie as tie
 
@@ -80,22 +80,31 @@ module _ (c : tie.At-loop Inv-loop2 μ-loop2 Inv-loop μ-loop) where
 -- what was heard and written in this turn
 module _ (c : tie.After-slice-known2 Inv-loop2 μ-loop2 Inv-loop μ-loop) where
   abbrev at : tie.At-loop Inv-loop2 μ-loop2 Inv-loop μ-loop
-  at = c .before .before .before .before .before .before .before .before
+  at = c .before .before .before .before .before .before .before .before .before
 
   abbrev heard : Heard
-  heard = c .before .before .before .before .hear .result
+  heard = c .before .before .before .before .if1 .heard
 
-  step : c .before .before .before .before .before .station-drive .result ≡ stationDrive (byteAt (start at .args .steps .now) (at .loop .c))
-  step = c .before .before .before .before .before .station-drive .ensures
+  step : c .before .before .before .before .before .before .station-drive .result ≡ stationDrive (byteAt (start at .args .steps .now) (at .loop .c))
+  step = c .before .before .before .before .before .before .station-drive .ensures
+
+  -- where it is known that no PHY drives the station alone is heard
+  all-heard : heard ≡ heardFrom (heardStation (c .before .before .before .before .before .before .station-drive .result)) (take (start at .args .board .count) (standing (at .loop .common) (at .loop .lines)))
+  all-heard =
+      let asked = c .before .before .before .before .before .is-silent .ensures in
+      ⊎-elim
+      (λ w. w .2 ∙ w .1 .ensures ∙ sym (hears-silent (at .loop .common) (sym asked ∙ w .0 .taken) _ (start at .args .board .count) (at .loop .lines)))
+      (λ w. w .2 ∙ w .1 .ensures)
+      (c .before .before .before .before .if1 .came)
 
   level-heard : heard .level ≡ levelOf (drivesIn (start at .args .events .now) (start at .args .steps .now) (physOf (first at .board)) (at .loop .c))
-  level-heard = level-is (head at) (at .loop .inv) _ heard step (c .before .before .before .before .hear .ensures)
+  level-heard = level-is (head at) (at .loop .inv) _ heard step all-heard
 
   record-put : putMid (at .loop .c * 5) (at .loop .c * 5 + 5 - at .loop .c * 5) (at .loop .log) (c .before .before .put .last .1 .0) ≡ pieced 5 (piece (start at .args .events .now) (start at .args .steps .now) (start at .args .log .now) (first at .board)) (start at .args .log .now) (suc (at .loop .c))
-  record-put = put-is (head at) (at .loop .inv) _ heard step (c .before .before .before .before .hear .ensures) _ (c .before .before .put .ensures)
+  record-put = put-is (head at) (at .loop .inv) _ heard step all-heard _ (c .before .before .put .ensures)
 
   more : at .loop .c < length (start at .args .steps .now)
-  more = c .before .before .before .before .before .before .before .loop-test .taken
+  more = c .before .before .before .before .before .before .before .before .loop-test .taken
 
   one : at .loop .c + 1 ≡ suc (at .loop .c)
   one = add-one (at .loop .c)
@@ -162,14 +171,22 @@ shared-slice-read-station-drive c = search needs
 station-drive-requires : tie.Need-station-drive-requires Inv-loop2 μ-loop2 Inv-loop μ-loop
 station-drive-requires c κs = tt
 
+is-silent-requires : tie.Need-is-silent-requires Inv-loop2 μ-loop2 Inv-loop μ-loop
+is-silent-requires c κs = tt
+
+station-requires : tie.Need-station-requires Inv-loop2 μ-loop2 Inv-loop μ-loop
+station-requires c κs = tt
+
 hear-requires : tie.Need-hear-requires Inv-loop2 μ-loop2 Inv-loop μ-loop
-hear-requires c κs = (known (start (c .before .before .before)) .sound .at-most, lines-small (head (c .before .before .before)) (c .before .before .before .loop .inv))
+hear-requires c κs =
+    let here = c .before .before .before .before .before in
+    (known (start here) .sound .at-most, lines-small (head here) (here .loop .inv))
 
 mul-at : tie.Need-mul-at Inv-loop2 μ-loop2 Inv-loop μ-loop
-mul-at c = omega (arith, room (c .before .before .before .before))
+mul-at c = omega (arith, room (c .before .before .before .before .before))
 
 add-end : tie.Need-add-end Inv-loop2 μ-loop2 Inv-loop μ-loop
-add-end c = omega (arith, room (c .before .before .before .before))
+add-end c = omega (arith, room (c .before .before .before .before .before))
 
 sub-put : tie.Need-sub-put Inv-loop2 μ-loop2 Inv-loop μ-loop
 sub-put c = omega arith
@@ -178,7 +195,7 @@ part-put-start : tie.Need-part-put-start Inv-loop2 μ-loop2 Inv-loop μ-loop
 part-put-start c = omega arith
 
 part-put-end : tie.Need-part-put-end Inv-loop2 μ-loop2 Inv-loop μ-loop
-part-put-end c = omega (arith, room (c .before .before .before .before))
+part-put-end c = omega (arith, room (c .before .before .before .before .before))
 
 put-requires : tie.Need-put-requires Inv-loop2 μ-loop2 Inv-loop μ-loop
 put-requires c κs = omega (arith, c .put-arg .given .1)
@@ -202,7 +219,7 @@ loop-again : tie.Need-loop-again Inv-loop2 μ-loop2 Inv-loop μ-loop
 loop-again c =
     let w = c .before .before .before .before in
     let here = at w in
-    let tests = both _ _ (c .before .if1 .taken) in
+    let tests = both _ _ (c .before .if2 .taken) in
     let alike = sym (c .before .before .moves-alike .ensures) ∙ tests .0 in
     let due = rw (one w) at (sym (c .before .before .before .is-due .ensures) ∙ not-true _ (tests .1)) in
     let moved = all-follow (heard w .level) (here .loop .common) alike (here .loop .lines) (here .loop .inv .shows) in
@@ -297,7 +314,7 @@ loop2-again c =
     let common = at w .loop .common in
     let level = heard w .level in
     let place : i < length (loop .lines) = omega (arith, reach w, loop .inv .1, c .before .before .before .before .before .before .loop2-test .taken) in
-    let new : (line : Line) × (joined .if2 .lines ≡ set (loop .lines) i line) = ⊎-elim (λ w. (w .4 .result, w .6)) (λ w. (w .1 .result, w .3)) (joined .if2 .came) in (
+    let new : (line : Line) × (joined .if3 .lines ≡ set (loop .lines) i line) = ⊎-elim (λ w. (w .4 .result, w .6)) (λ w. (w .1 .result, w .3)) (joined .if3 .came) in (
       omega arith,
       ap length (new .1) ∙ length-set (loop .lines) i (new .0) ∙ loop .inv .1,
       gathered-next (loop .gathered) _ i (loop .lines) _ (new .0) place (new .1) (c .with .ensures) (loop .inv .2),
@@ -311,37 +328,23 @@ loop2-again c =
           ⊎-elim
           (λ w. rw (w .5, w .6, ← next, ← mixed-set (stands common) i (loop .lines) (w .4 .result)) (turn-acts so-far same i there level (w .4 .result) (w .3 .result) (w .3 .ensures ∙ ap (clock level) (w .2 .ensures ∙ ap (λ l. onto l (getD (loop .now .phys) i nowhere)) here)) (w .4 .ensures)))
           (λ w. rw (w .2, w .3, ← next, ← mixed-set (stands common) i (loop .lines) (w .1 .result)) (turn-follows so-far same i there level (w .1 .result) (ap lineActs (sym here) ∙ sym (c .before .before .before .acts .ensures) ∙ w .0 .left) (w .1 .ensures ∙ ap (lineFollows level) here)))
-          (joined .if2 .came),
+          (joined .if3 .came),
     )
 
-join-all-requires : tie.Need-join-all-requires Inv-loop2 μ-loop2 Inv-loop μ-loop
-join-all-requires c κs = places (c .before .before)
-
 happen-until-requires-2 : tie.Need-happen-until-requires-2 Inv-loop2 μ-loop2 Inv-loop μ-loop
-unfolding joinedBoard
-happen-until-requires-2 c κs =
-    let turn = c .before .before .before in
-    let same = ap (λ (b : Board). b .count) (c .join-all .ensures) in
-    omega (arith, places turn)
-
-lines-of-requires-2 : tie.Need-lines-of-requires-2 Inv-loop2 μ-loop2 Inv-loop μ-loop
-lines-of-requires-2 c κs = tt
-
-apart-requires-2 : tie.Need-apart-requires-2 Inv-loop2 μ-loop2 Inv-loop μ-loop
-apart-requires-2 c κs = tt
+happen-until-requires-2 c κs = places (c .before .before)
 
 loop-less-2 : tie.Need-loop-less-2 Inv-loop2 μ-loop2 Inv-loop μ-loop
-loop-less-2 c = omega (arith, more (written (c .before .before .before .before .before .before .before)))
+loop-less-2 c = omega (arith, more (written (c .before .before .before .before)))
 
 loop-again-2 : tie.Need-loop-again-2 Inv-loop2 μ-loop2 Inv-loop μ-loop
 loop-again-2 c =
-    let after = c .before .before .before .before .before .before in
+    let after = c .before .before .before in
     let w = written (after .before) in
     let here = at w in
-    let happened = rw (one w) at (c .before .before .before .happen-until2 .ensures) in
-    let same = ap₂ standing (c .apart2 .ensures) (c .before .lines-of2 .ensures) ∙ standing-apart _ in
-    rw (one w, same)
-    (happening _ _ _ _ (start-full (head here)) (here .loop .inv) (known (start here) .rising) (more w) _ (heard w .level) (record-put w) (level-heard w) _ _ (sampled after) _ _ (c .before .before .before .before .join-all .ensures) happened)
+    let happened = rw (one w) at (c .before .happen-until2 .ensures) in
+    rw (one w)
+    (happening _ _ _ _ (start-full (head here)) (here .loop .inv) (known (start here) .rising) (more w) _ (heard w .level) (record-put w) (level-heard w) _ _ (sampled after) _ happened)
 
 loop-less-3 : tie.Need-loop-less-3 Inv-loop2 μ-loop2 Inv-loop μ-loop
 loop-less-3 c = omega (arith, more (written (c .before .before)))
@@ -351,12 +354,12 @@ loop-again-3 c =
     let after = c .before in
     let w = written (after .before) in
     let here = at w in
-    let due = rw (one w) at (sym (after .before .before .before .before .before .before .before .before .is-due .ensures) ∙ c .if3 .left) in
+    let due = rw (one w) at (sym (after .before .before .before .before .before .before .before .before .is-due .ensures) ∙ c .if4 .left) in
     rw (one w)
     (undue _ _ _ _ (start-full (head here)) (here .loop .inv) (known (start here) .rising) (more w) _ (heard w .level) (record-put w) (level-heard w) _ _ (sampled after) due)
 
-join-all-requires-2 : tie.Need-join-all-requires-2 Inv-loop2 μ-loop2 Inv-loop μ-loop
-join-all-requires-2 c κs =
+join-all-requires : tie.Need-join-all-requires Inv-loop2 μ-loop2 Inv-loop μ-loop
+join-all-requires c κs =
     let here = c .before in
     omega (arith, here .loop .inv .shows .counted, start-count (head here), known (start here) .sound .at-most)
 
@@ -367,7 +370,7 @@ returns : tie.Need-returns Inv-loop2 μ-loop2 Inv-loop μ-loop
 returns c =
     let here = c .before .before in
     let all : here .loop .c ≡ length (start here .args .steps .now) = omega (arith, here .loop .inv .gone) in
-    ends (head here) (here .loop .inv) (c .join-all2 .result) all (c .join-all2 .ensures)
+    ends (head here) (here .loop .inv) (c .join-all .result) all (c .join-all .ensures)
 
 pub clock-by-clock-spec : {M : Type 1} → statement M
 clock-by-clock-spec =
@@ -383,6 +386,8 @@ clock-by-clock-spec =
     loop-holds
     shared-slice-read-station-drive
     station-drive-requires
+    is-silent-requires
+    station-requires
     hear-requires
     mul-at
     add-end
@@ -423,14 +428,11 @@ clock-by-clock-spec =
     add-i
     loop2-less
     loop2-again
-    join-all-requires
     happen-until-requires-2
-    lines-of-requires-2
-    apart-requires-2
     loop-less-2
     loop-again-2
     loop-less-3
     loop-again-3
-    join-all-requires-2
+    join-all-requires
     same-length
     returns)

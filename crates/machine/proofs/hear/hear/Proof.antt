@@ -10,7 +10,6 @@ use Rattle.machine.specs.declared.line.Line.{Line}
 use Rattle.machine.specs.Lines.{noLine, heardFrom}
 use Rattle.machine.specs.Common.{stands, standing}
 use Rattle.machine.proofs.Turns.{all-at, map-at, heard-next}
-use Rattle.machine.proofs.Alike.{hears-silent}
 use Rattle.machine.proofs.hear.hear.Statement.{statement}
 use Rattle.machine.proofs.hear.hear.Tie as tie
 
@@ -22,15 +21,6 @@ abbrev μ-loop : tie.MeasureT-loop
 
 station-requires : tie.Need-station-requires Inv-loop μ-loop
 station-requires c κs = search needs
-
-is-silent-requires : tie.Need-is-silent-requires Inv-loop μ-loop
-is-silent-requires c κs = search needs
-
-returns : tie.Need-returns Inv-loop μ-loop
-returns c =
-    let start = c .before .before .before in
-    let silent = sym (c .before .is-silent .ensures) ∙ c .if1 .taken in
-    c .before .before .station .ensures ∙ sym (hears-silent (start .args .common) silent _ (start .args .count) (start .args .t1))
 
 -- all lines that are heard
 abbrev all : tie.Start Inv-loop μ-loop → List Line
@@ -64,7 +54,7 @@ stands-requires c κs = search needs
 with-requires : tie.Need-with-requires Inv-loop μ-loop
 with-requires c κs =
     let turn = c .before .before .before in
-    let start = turn .before .before .before .before in
+    let start = turn .before .before in
     let i = turn .loop .i in
     let there = all-at (λ line. line .address < 32) (all start) i noLine (omega (arith, long start)) (start .pre .1) in
     rw (at start i (omega arith), ← c .stands .ensures) at there
@@ -78,20 +68,20 @@ loop-less c = search needs
 loop-again : tie.Need-loop-again Inv-loop μ-loop
 loop-again c =
     let turn = c .before .before .before .before in
-    let start = turn .before .before .before .before in
+    let start = turn .before .before in
     let loop = turn .loop in
     let here = c .before .stands .ensures ∙ sym (at start (loop .i) (omega arith)) in
     let more = heard-next (loop .heard) (all start) (loop .i) noLine (omega (arith, long start)) in
     (search needs, rw (c .with .ensures, here) (sym more ∙ loop .inv .1))
 
-returns-2 : tie.Need-returns-2 Inv-loop μ-loop
+returns : tie.Need-returns Inv-loop μ-loop
 unfolding heardFrom
-returns-2 c =
+returns c =
     let turn = c .before in
-    let start = turn .before .before .before .before in
+    let start = turn .before .before in
     let loop = turn .loop in
     let none = drop-of-length-le (all start) {i = loop .i} (omega (arith, long start)) in
-    sym (ap (heardFrom (loop .heard)) none) ∙ loop .inv .1 ∙ ap (λ h. heardFrom h (all start)) (turn .before .before .before .station .ensures)
+    sym (ap (heardFrom (loop .heard)) none) ∙ loop .inv .1 ∙ ap (λ h. heardFrom h (all start)) (turn .before .station .ensures)
 
 pub hear-spec : {M : Type 1} → statement M
 hear-spec =
@@ -100,8 +90,6 @@ hear-spec =
     Inv-loop
     μ-loop
     station-requires
-    is-silent-requires
-    returns
     loop-holds
     mul-stands
     array-copy-out-stands
@@ -110,4 +98,4 @@ hear-spec =
     add-i
     loop-less
     loop-again
-    returns-2)
+    returns)
