@@ -18,13 +18,13 @@ use Rattle.wire.specs.Follower.{follow}
 use Rattle.phy.specs.declared.Phy.{Phy}
 use Rattle.phy.specs.Clock.{clock}
 use Rattle.phy.proofs.Every.{both}
+use Rattle.phy.proofs.Clocks.{drives-hunting, drives-early}
 use Rattle.board.specs.declared.Board.{Board}
 use Rattle.machine.specs.declared.line.Line.{Line}
 use Rattle.machine.specs.declared.hear.Heard.{Heard}
 use Rattle.machine.specs.declared.common.Common.{Common}
-use Rattle.machine.specs.Lines.{lineOf, noLine, lineDrives, actsIn, lineActs, lineFollows, hearsDrive, hears, heardFrom}
+use Rattle.machine.specs.Lines.{lineOf, noLine, wordless, lineDrives, actsIn, lineActs, lineFollows, hearsDrive, hears, heardFrom}
 use Rattle.machine.specs.Common.{apart, sameFollower, joinedBy, lineWith, stands, standing, silentIn, isSilent, movesAlikeIn, movesAlike, commonFollows}
-use Rattle.machine.proofs.Lines.{drives-hunting, drives-early}
 use Rattle.machine.proofs.Quiet.{bare, quiet-line, quiet-bare}
 use Rattle.machine.proofs.Stands.{take-map, Shows}
 
@@ -41,8 +41,8 @@ drives-silent : (line : Line) → silentIn (line .follower) ≡ true → lineDri
 drives-silent line silent = go (line .follower) refl silent
   where
     go : (f : Follower) → line .follower ≡ f → silentIn f ≡ true → lineDrives line ≡ Released
-    go (Hunting ones) e s = drives-hunting line ones e
-    go (Inside seen bits) e s = drives-early line seen bits e (ltb-true seen 15 s)
+    go (Hunting ones) e s = drives-hunting (wordless line) ones e
+    go (Inside seen bits) e s = drives-early (wordless line) seen bits e (ltb-true seen 15 s)
 
 stands-silent : (common : Common) (line : Line) → isSilent common ≡ true → lineDrives (stands common line) ≡ Released
 unfolding stands

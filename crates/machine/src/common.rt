@@ -3,6 +3,7 @@
 ghost use mathlib.Core.Path.{_≡_};
 ghost use Rattle.machine.specs.Common.{apart, ledBy, stands, isSilent, movesAlike, commonFollows, sameFollower, joinedBy};
 use crate::line::Line;
+use phy::Phy;
 use wire::Follower;
 
 pub(crate) struct Common {
@@ -27,11 +28,6 @@ fn same_follower(one: Follower, other: Follower) -> bool
 }
 
 impl Common {
-    // The bits of a frame that are seen before its 14th one, and before an answer starts.
-    const BEFORE_HEADER: u8 = 13;
-
-    const BEFORE_ANSWER: u8 = 15;
-
     // Nothing: each line has its own follower.
     pub(crate) fn apart() -> Common
         ensures { λ r. ⌜ r ≡ apart ⌝ }
@@ -91,7 +87,7 @@ impl Common {
         let follower = self.follower;
         match follower {
             Follower::Hunting(_) => self.alike,
-            Follower::Inside(seen, _) => self.alike & (seen < Common::BEFORE_ANSWER),
+            Follower::Inside(seen, _) => self.alike & (seen < Phy::BEFORE_ANSWER),
         }
     }
 
@@ -103,7 +99,7 @@ impl Common {
         match follower {
             Follower::Hunting(_) => self.alike & level,
             Follower::Inside(seen, _) => {
-                self.alike & ((seen != Common::BEFORE_HEADER) & (seen != Follower::MOST_SEEN))
+                self.alike & ((seen != Phy::BEFORE_HEADER) & (seen != Follower::MOST_SEEN))
             }
         }
     }
