@@ -28,6 +28,6 @@ module _ (file : List ℕ) (old : List Phy) (n : ℕ) where
       any-ext k _ _ (λ i l. ap (λ (p : Phy). eqb (p .address) (addressAt file k)) (loaded-at i (omega arith)))
 
 -- the checks of a turn are the file's
-pub found-fault : (file : List ℕ) (old : List Phy) (k : ℕ) (phys : List Phy) (phy : Phy) (used : Bool) → phys ≡ filled (phyAt file) old k → phy ≡ phyAt file k → used ≡ hasAddress phys k (phy .address) → faultOf (zeroByteAt file k) used phy ≡ recordFault file k
-unfolding recordFault phyAt
-found-fault file old k phys phy used e f g = rw (g, e, f, used-before file old k k (omega arith))
+pub found-fault : (file : List ℕ) (k : ℕ) (phy : Phy) (used : Bool) → phy ≡ phyAt file k → used ≡ usedBefore file k → faultOf (zeroByteAt file k) used phy ≡ recordFault file k
+unfolding recordFault
+found-fault file k phy used e f = rw (e, f)

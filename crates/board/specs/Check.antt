@@ -19,9 +19,12 @@ places = 32
 abbrev pub placeAt : Board → ℕ → Phy
 placeAt board k = getD (board .phys) k nowhere
 
--- "each record passes checks 3 to 6 against those before it"
+-- "each record passes checks 3 to 6 against those before it", where it is known whether one of them has its address
+abbrev pub passesAs : Bool → Phy → Bool
+passesAs used phy = eqb (faultOf 0 used phy) 0
+
 unfoldable pub recordPasses : Board → ℕ → Bool
-recordPasses board k = eqb (faultOf 0 (hasAddress (board .phys) k (placeAt board k .address)) (placeAt board k)) 0
+recordPasses board k = passesAs (hasAddress (board .phys) k (placeAt board k .address)) (placeAt board k)
 
 -- a place is unused and blank, or its PHY has a good record and is sound
 unfoldable pub placeSound : Board → ℕ → Bool

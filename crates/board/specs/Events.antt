@@ -30,10 +30,12 @@ eventCode events k = byteAt events (k * eventRecord + 3)
 abbrev pub onBoard : Board → ℕ → Bool
 onBoard board address = hasAddress (board .phys) (min (board .count) places) address
 
--- 8: "event code not 1 to 7, or address not on the board"
+-- 8: "event code not 1 to 7, or address not on the board", where it is known whether it is
+abbrev pub eventWrongAs : Bool → List ℕ → ℕ → Bool
+eventWrongAs there events k = not (leb 1 (eventCode events k) && leb (eventCode events k) 7) || not there
+
 abbrev pub eventWrong : Board → List ℕ → ℕ → Bool
-eventWrong board events k =
-    not (leb 1 (eventCode events k) && leb (eventCode events k) 7) || not (onBoard board (eventAddress events k))
+eventWrong board events k = eventWrongAs (onBoard board (eventAddress events k)) events k
 
 -- the clock of the record before, of which the first has none
 abbrev pub clockBefore : List ℕ → ℕ → ℕ
@@ -45,8 +47,11 @@ abbrev pub clockWrong : List ℕ → ℕ → ℕ → Bool
 clockWrong events last k = ltb (eventClock events k) (clockBefore events k) || ltb last (eventClock events k)
 
 -- what checks 8 and 9 find of the record at index k
+abbrev pub eventFaultAs : Bool → List ℕ → ℕ → ℕ → ℕ
+eventFaultAs there events last k = wrongEvent when eventWrongAs there events k else wrongClock when clockWrong events last k
+
 unfoldable pub eventFault : Board → List ℕ → ℕ → ℕ → ℕ
-eventFault board events last k = wrongEvent when eventWrong board events k else wrongClock when clockWrong events last k
+eventFault board events last k = eventFaultAs (onBoard board (eventAddress events k)) events last k
 
 -- the event file's checks on a board, where `last` is the last clock: 1, 2, then its records in order by 8 and 9
 abbrev pub eventsVerdict : Board → List ℕ → ℕ → Verdict

@@ -1,7 +1,7 @@
 -- Document 01, "Refusal numbers": checks 3 to 6 of a board record, "each checked by rising number".
 use Prim.Native.Nat.{ℕ, zero, suc}
 use mathlib.Core.Bool.{Bool, not, _||_}
-use mathlib.Core.List.{List}
+use mathlib.Core.List.{List, map}
 use lib.ListN.{getD}
 use lib.Dec.{eqb, ltb}
 use Rattle.verdict.specs.Refusal.{wrongField, addressUsed, wrongRegisterSet, wrongDefault, _when_, _else_}
@@ -18,6 +18,13 @@ fieldsWrong zeroByte p = ltb 31 (p .address) || not (eqb zeroByte 0)
 -- 4: "an address already used by an earlier board record": whether one of the first n PHYs has it
 unfoldable pub hasAddress : List Phy → ℕ → ℕ → Bool
 hasAddress phys n address = any n (λ i. eqb (getD phys i nowhere .address) address)
+
+-- the same asked of the addresses alone
+abbrev pub addressesOf : List Phy → List ℕ
+addressesOf phys = map (λ phy. phy .address) phys
+
+unfoldable pub isAmong : List ℕ → ℕ → ℕ → Bool
+isAmong addresses n address = any n (λ i. eqb (getD addresses i 0) address)
 
 -- what checks 3 to 6 find of the record that a PHY comes from, by rising number; 0 where it passes
 unfoldable pub faultOf : ℕ → Bool → Phy → ℕ

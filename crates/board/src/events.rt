@@ -4,9 +4,10 @@ use crate::record;
 use crate::record::Record;
 use verdict::Verdict;
 ghost use mathlib.Core.Path.{_≡_};
-ghost use Prim.Native.Nat.{_+_, _*_, _<_};
+ghost use Prim.Native.Nat.{_+_, _*_, _<_, min};
 ghost use Rattle.verdict.specs.File.{byteAt};
-ghost use Rattle.board.specs.Events.{eventRecord, eventClock, eventAddress, eventCode, onBoard, clockBefore, eventFault, eventsVerdict};
+ghost use Rattle.board.specs.Events.{eventRecord, eventClock, eventAddress, eventCode, clockBefore, eventFaultAs, eventsVerdict};
+ghost use Rattle.board.specs.Check.{places};
 ghost use Rattle.board.specs.Record.{recordOf};
 
 // A byte of the event record at index k; past the file's end a byte reads 0.
@@ -39,27 +40,25 @@ pub fn code_of(events: &[u8], k: usize) -> u8
     byte_of(events, k, 3)
 }
 
-// Whether a PHY of the board has an address.
-fn on_board(board: Board, address: u8) -> bool
-    ensures { λ r. ⌜ r ≡ onBoard board address ⌝ }
+// How many places are looked at for an address.
+fn places_of(board: Board) -> usize
+    ensures { λ r. ⌜ r ≡ min (board .count) places ⌝ }
 {
-    let phys = board.phys;
-    let count = board.count;
-    if Board::PLACES < count {
-        return record::has_address(phys, Board::PLACES, address);
+    if Board::PLACES < board.count {
+        Board::PLACES
+    } else {
+        board.count
     }
-    record::has_address(phys, count, address)
 }
 
-// Checks 8 and 9 of the event record at index k, where `before` is the clock of the one before it.
-fn judge_event(board: Board, events: &[u8], last: usize, k: usize, before: u16) -> Record
+// Checks 8 and 9 of the event record at index k, where `there` is whether its address is on the board and `before` the clock of
+// the record before it.
+fn judge_event(there: bool, events: &[u8], last: usize, k: usize, before: u16) -> Record
     requires { ⌜ before ≡ clockBefore (now events) k ⌝ }
-    ensures { λ r. ⌜ r ≡ recordOf (eventFault board (now (events .entry)) last k) ⌝ }
+    ensures { λ r. ⌜ r ≡ recordOf (eventFaultAs there (now (events .entry)) last k) ⌝ }
 {
     let clock = clock_of(events, k);
-    let address = address_of(events, k);
     let code = code_of(events, k);
-    let there = on_board(board, address);
     if !((1 <= code) & (code <= 7)) | !there {
         return Record::Bad(Verdict::WRONG_EVENT);
     }
@@ -80,10 +79,13 @@ pub fn check_events(board: Board, events: &[u8], last: usize) -> Verdict
     if Board::MOST_EVENTS < count {
         return Verdict::Refused(Verdict::TOO_MANY, 0);
     }
+    let addresses = record::addresses_of(board);
+    let places = places_of(board);
     let mut before: u16 = 0;
     let mut k: usize = 0;
     while k < count {
-        let event = judge_event(board, events, last, k, before);
+        let there = record::has_address(addresses, places, address_of(events, k));
+        let event = judge_event(there, events, last, k, before);
         let Record::Good = event else {
             return Verdict::Refused(event.refusal(), k);
         };

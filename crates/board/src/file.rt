@@ -11,7 +11,7 @@ use wire::Follower;
 ghost use mathlib.Core.Path.{_≡_};
 ghost use Prim.Native.Nat.{_+_, _*_, _≤_};
 ghost use lib.ListN.{length};
-ghost use Rattle.board.specs.Load.{wordsAt, phyAt, boardRecord, refusedLoad, loaded};
+ghost use Rattle.board.specs.Load.{wordsAt, phyAt, boardRecord, usedBefore, refusedLoad, loaded};
 
 // The 32 words from a place of the file on, high byte first.
 fn words_at(file: &[u8], start: usize) -> [u16; 32]
@@ -49,6 +49,22 @@ fn phy_at(file: &[u8], k: usize) -> Phy
     }
 }
 
+// Whether an earlier record has the address of the record at index k.
+fn used_before(file: &[u8], k: usize) -> bool
+    requires { ⌜ (k + 1) * boardRecord ≤ length (now file) ⌝ }
+    ensures { λ r. ⌜ r ≡ usedBefore (now (file .entry)) k ⌝ }
+{
+    let address = file[k * Board::RECORD];
+    let mut i: usize = 0;
+    while i < k {
+        if file[i * Board::RECORD] == address {
+            return true;
+        }
+        i += 1;
+    }
+    false
+}
+
 // A refused load hands back the board of no PHYs.
 fn refused(number: u8, index: usize) -> Loaded
     ensures { λ r. ⌜ r ≡ refusedLoad number index ⌝ }
@@ -80,7 +96,7 @@ pub fn load(file: &[u8]) -> Loaded
     while k < count {
         let phy = phy_at(file, k);
         let zero = file[k * Board::RECORD + 1];
-        let used = record::has_address(phys, k, phy.address);
+        let used = used_before(file, k);
         let record = record::judge(zero, used, phy);
         let Record::Good = record else {
             return refused(record.refusal(), k);

@@ -48,9 +48,12 @@ pub fn check(board: Board) -> Verdict
     if Board::PLACES < count {
         return Verdict::Refused(Verdict::NOT_SOUND, Board::PLACES);
     }
+    let addresses = record::addresses_of(board);
     let mut k: usize = 0;
     while k < Board::PLACES {
-        if !sound::place_sound(board, k) {
+        let phy = board.phys[k];
+        let used = record::has_address(addresses, k, phy.address);
+        if !sound::place_sound(phy, count <= k, used) {
             return Verdict::Refused(Verdict::NOT_SOUND, k);
         }
         k += 1;

@@ -9,7 +9,7 @@ use verdict::Verdict;
 ghost use mathlib.Core.Path.{_≡_};
 ghost use Prim.Native.Nat.{_≤_};
 ghost use Rattle.phy.specs.Record.{othersImplemented, registerSetRight, unimplementedZero, fastest, derivedControl, wordsRight, defaultsRight};
-ghost use Rattle.board.specs.Record.{hasAddress, faultOf, recordOf, refusalOf};
+ghost use Rattle.board.specs.Record.{addressesOf, isAmong, faultOf, recordOf, refusalOf};
 
 // What the checks find of a record of a file.
 pub(crate) enum Record {
@@ -123,14 +123,27 @@ fn defaults_right(implemented: u32, defaults: [u16; 32], masks: [u16; 32]) -> bo
     idle & (fixed & words)
 }
 
-// Whether one of the first n PHYs has an address.
-pub(crate) fn has_address(phys: [Phy; 32], n: usize, address: u8) -> bool
+// The address at each place: a few bytes to look through in place of a whole board.
+pub(crate) fn addresses_of(board: Board) -> [u8; 32]
+    ensures { λ r. ⌜ r ≡ addressesOf (board .phys) ⌝ }
+{
+    let mut addresses = [0u8; 32];
+    let mut i: usize = 0;
+    while i < Board::PLACES {
+        addresses[i] = board.phys[i].address;
+        i += 1;
+    }
+    addresses
+}
+
+// Whether one of the first n addresses is this one.
+pub(crate) fn has_address(addresses: [u8; 32], n: usize, address: u8) -> bool
     requires { ⌜ n ≤ 32 ⌝ }
-    ensures { λ r. ⌜ r ≡ hasAddress phys n address ⌝ }
+    ensures { λ r. ⌜ r ≡ isAmong addresses n address ⌝ }
 {
     let mut i: usize = 0;
     while i < n {
-        if phys[i].address == address {
+        if addresses[i] == address {
             return true;
         }
         i += 1;

@@ -1,5 +1,4 @@
 // What makes a PHY sound beside its record, and a place blank (document 01, "A sound board").
-use crate::Board;
 use crate::bits;
 use crate::bits::Register;
 use crate::record;
@@ -11,11 +10,11 @@ use phy::Status;
 use wire::Follower;
 use wire::Header;
 ghost use mathlib.Core.Path.{_≡_};
-ghost use Prim.Native.Nat.{_<_};
+ghost use mathlib.Core.Bool.{_&&_, cond};
 ghost use Rattle.phy.specs.Sound.{controlSound, registersStand, othersAtDefault, resetStands, followerSound, answering, phySound, zeros, huntsFresh, isBlank, blank};
 ghost use Rattle.phy.specs.Abilities.{one};
 ghost use Rattle.phy.specs.Control.{speedAble};
-ghost use Rattle.board.specs.Check.{placeSound};
+ghost use Rattle.board.specs.Check.{passesAs};
 
 // Bits outside masks stand at default in registers above 1.
 fn registers_stand(phy: Phy) -> bool
@@ -218,17 +217,14 @@ pub(crate) fn blank() -> Phy
     }
 }
 
-// Whether a place of a board is as it should be: a PHY with a good record that is sound, or blank.
-pub(crate) fn place_sound(board: Board, k: usize) -> bool
-    requires { ⌜ k < 32 ⌝ }
-    ensures { λ r. ⌜ r ≡ placeSound board k ⌝ }
+// Whether a place is as it should be: blank where it is unused, else a PHY with a good record that is sound. `used` is
+// whether its address is, by an earlier place.
+pub(crate) fn place_sound(phy: Phy, unused: bool, used: bool) -> bool
+    ensures { λ r. ⌜ r ≡ cond unused (isBlank phy) (passesAs used phy && phySound phy) ⌝ }
 {
-    let phys = board.phys;
-    let phy = phys[k];
-    if board.count <= k {
+    if unused {
         return is_blank(phy);
     }
-    let used = record::has_address(phys, k, phy.address);
     let record = record::judge(0, used, phy);
     let Record::Good = record else {
         return false;

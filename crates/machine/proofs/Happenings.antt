@@ -17,15 +17,25 @@ use Rattle.verdict.proofs.Elements.{all-of, map-same, map-then, map-stays}
 use Rattle.wire.specs.Machines.{quiet}
 use Rattle.phy.specs.declared.Phy.{Phy}
 use Rattle.phy.specs.Events.{event}
+use Rattle.phy.specs.Clock.{afterHeader, afterFrame}
 use Rattle.phy.proofs.Every.{neither}
 use Rattle.board.specs.declared.Board.{Board}
 use Rattle.board.specs.Events.{eventRecord, mostEvents, eventClock, eventAddress, eventCode, eventWrong, clockWrong, eventFault, eventsVerdict}
 use Rattle.machine.specs.declared.events.Happened.{Happened}
 use Rattle.machine.specs.Outcome.{physOf, withPhys}
 use Rattle.machine.specs.Events.{happensFrom, happens}
-use Rattle.machine.specs.Acts.{actOn, actOnAll, eventAct, happenedFrom}
+use Rattle.machine.specs.declared.acts.Act.{Act}
+use Rattle.machine.specs.declared.acts.Act.the-variants.{Happens, HeaderEnds, FrameEnds}
+use Rattle.machine.specs.Acts.{isActFor, actOn, actOnAll, eventAct, happenedFrom}
 use Rattle.machine.specs.Plain.{coreWith}
 use Rattle.machine.proofs.Places.{with-own, with-then}
+
+-- an act does nothing to a PHY that it is not for
+pub act-passes : (act : Act) (phy : Phy) → isActFor act phy ≡ false → actOn act phy ≡ phy
+unfolding isActFor actOn afterHeader afterFrame
+act-passes (Happens address code) phy other = rw other
+act-passes (HeaderEnds header) phy other = rw other
+act-passes (FrameEnds header word) phy other = rw other
 
 -- A turn over the records: one more, or no more
 module _ (events : List ℕ) (limit n k : ℕ) (board : Board) where

@@ -11,7 +11,9 @@ pub mod Lines
 pub mod Turns
 pub mod Lockstep
 pub mod Quiet
+pub mod HappensLine
 pub mod Stands
+pub mod Alike
 pub mod Accepts
 pub mod Begins
 pub mod RunLaws

@@ -1,9 +1,8 @@
--- What a line tells of its PHY: what it drives, and all of a clock in which it does not act.
+-- What a line tells of its PHY in a clock, and a step and a mask bit by bit.
 use Prim.Native.Nat.{ℕ, zero, suc, _*_, _%_, _^_, _≤_, _<_}
 use mathlib.Core.Path.{_≡_, refl, ap, _∙_}
 use mathlib.Core.Bool.{Bool, true, false, cond}
 use native.Mathlib.Omega.{arith}
-use borrow.Author.Tests.{ne-eqb, le-leb, lt-leb}
 use Rattle.wire.specs.declared.Drive.the-variants.{Released}
 use Rattle.wire.specs.declared.Follower.{Follower}
 use Rattle.wire.specs.declared.Follower.the-variants.{Hunting, Inside}
@@ -12,11 +11,11 @@ use lib.Bits.{bitOr}
 use lib.Dec.{eqb}
 use lib.Pow.{pow-lt}
 use Rattle.wire.specs.Wire.{asBit, stationDrive}
-use Rattle.wire.specs.Follower.{oneMore, headerSeen, answering}
+use Rattle.wire.specs.Follower.{oneMore, headerSeen}
 use Rattle.phy.specs.Words.{setBit}
 use Rattle.phy.proofs.Words.{or-bit}
 use Rattle.machine.specs.declared.line.Line.{Line}
-use Rattle.machine.specs.Lines.{lineAnswers, lineDrivesIn, lineDrives, isOwn, actsIn, lineActs}
+use Rattle.machine.specs.Lines.{isOwn, actsIn, lineActs}
 
 -- whether the PHY acts in the next clock
 pub acts-hunting : (line : Line) (ones : ℕ) → line .follower ≡ Hunting ones → lineActs line ≡ false
@@ -26,32 +25,6 @@ acts-hunting line ones e = ap (λ (f : Follower). actsIn f line) e
 pub acts-inside : (line : Line) (seen bits : ℕ) → line .follower ≡ Inside seen bits → lineActs line ≡ cond (eqb seen 13) (isOwn 2 (headerSeen 14 (oneMore bits false)) line) (cond (eqb seen 31) (isOwn 1 (headerSeen 32 (oneMore bits false)) line) false)
 unfolding actsIn
 acts-inside line seen bits e = ap (λ (f : Follower). actsIn f line) e
-
--- hunting, nothing is driven
-pub drives-hunting : (line : Line) (ones : ℕ) → line .follower ≡ Hunting ones → lineDrives line ≡ Released
-unfolding lineDrivesIn
-drives-hunting line ones e = ap (λ (f : Follower). lineDrivesIn f line) e
-
-module _ (line : Line) (seen bits : ℕ) (now : line .follower ≡ Inside seen bits) where
-  pub drives-inside : lineDrives line ≡ cond (lineAnswers (headerSeen seen bits) line) (answering seen (line .captured)) Released
-  unfolding lineDrivesIn
-  drives-inside = ap (λ (f : Follower). lineDrivesIn f line) now
-
-  -- outside bits 16 to 32 nothing is driven
-  nothing : answering seen (line .captured) ≡ Released → lineDrives line ≡ Released
-  nothing e = drives-inside ∙ rw e (go (lineAnswers (headerSeen seen bits) line))
-    where
-      go : (t : Bool) → cond t Released Released ≡ Released
-      go true = refl
-      go false = refl
-
-  pub drives-early : seen < 15 → lineDrives line ≡ Released
-  unfolding answering
-  drives-early h = nothing (rw (ne-eqb seen 15 (omega arith), lt-leb 16 seen (omega arith)))
-
-  pub drives-late : 31 < seen → lineDrives line ≡ Released
-  unfolding answering
-  drives-late h = nothing (rw (ne-eqb seen 15 (omega arith), le-leb 16 seen (omega arith), lt-leb seen 31 h))
 
 -- a step that drives nothing
 pub station-released : (step : ℕ) → (step ≡ 0 → ⊥) → (step ≡ 1 → ⊥) → Released ≡ stationDrive step

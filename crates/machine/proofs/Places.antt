@@ -64,10 +64,14 @@ module _ (board : Board) where
     pub phys-of-with : physOf (withPhys board phys) ≡ phys
     phys-of-with = front (board .count) (board .phys) phys same
 
+    -- and those behind them stay
+    pub behind-with : drop (board .count) (withPhys board phys .phys) ≡ drop (board .count) (board .phys)
+    behind-with = back (board .count) (board .phys) phys same
+
     -- and others come into the same places
     pub with-with : (others : List Phy) → withPhys (withPhys board phys) others ≡ withPhys board others
     with-with others =
-        λ i. record { count = board .count; phys = others ++ back (board .count) (board .phys) phys same i }
+        λ i. record { count = board .count; phys = others ++ behind-with i }
 
 -- one change of the PHYs after another
 pub with-then : (board after : Board) (phys : List Phy) (change : List Phy → List Phy) → length phys ≡ length (physOf board) → after ≡ withPhys board phys → withPhys after (change (physOf after)) ≡ withPhys board (change phys)

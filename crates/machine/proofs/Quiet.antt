@@ -23,7 +23,7 @@ use Rattle.machine.specs.declared.line.Line.{Line}
 use Rattle.machine.specs.declared.hear.Heard.{Heard}
 use Rattle.machine.specs.Log.{isDriving, marked, maskFrom, clockRecord}
 use Rattle.machine.specs.Run.{addressesOf}
-use Rattle.machine.specs.Lines.{lineOf, lineAnswers, lineDrivesIn, lineDrives, isOwn, actsIn, lineActs, captures, lineFollows, onto, heardStation, hearsDrive, hears, heardFrom, recordOf}
+use Rattle.machine.specs.Lines.{lineOf, wordless, lineDrives, isOwn, actsIn, lineActs, captures, lineFollows, onto, heardStation, hearsDrive, hears, heardFrom, recordOf}
 
 -- Of one PHY
 -- a PHY without its line
@@ -36,10 +36,10 @@ put-back p q same = ap (withLine (p .follower) (p .captured)) same
 
 -- a line says what its PHY drives
 pub line-drives : (phy : Phy) → lineDrives (lineOf phy) ≡ drives phy
-unfolding lineDrivesIn lineAnswers drivesIn answers implements
+unfolding drivesIn answers implements
 line-drives phy = go (phy .follower)
   where
-    go : (f : Follower) → lineDrivesIn f (lineOf phy) ≡ drivesIn f phy
+    go : (f : Follower) → drivesIn f (wordless (lineOf phy)) ≡ drivesIn f phy
     go (Hunting ones) = refl
     go (Inside seen bits) = refl
 

@@ -11,6 +11,8 @@ use borrow.Author.Tests.{ltb-true, ltb-false, leb-false}
 use Rattle.verdict.specs.File.{records}
 use Rattle.verdict.proofs.Lists.{tabulate-of}
 use Rattle.verdict.proofs.Outputs.{pieced}
+use Rattle.verdict.proofs.Elements.{map-then, map-past}
+use Rattle.wire.specs.declared.Follower.the-variants.{Hunting}
 use Rattle.wire.specs.Wire.{levelOf}
 use Rattle.phy.specs.declared.Phy.{Phy}
 use Rattle.phy.specs.Sound.{nowhere}
@@ -25,13 +27,15 @@ use Rattle.machine.specs.Acts.{happenedFrom}
 use Rattle.machine.specs.Log.{clockRecord}
 use Rattle.machine.specs.Run.{addressesOf}
 use Rattle.machine.specs.Lines.{lineOf, noLine, onto, lineActs, lineFollows, joinedBoard, isDue}
-use Rattle.machine.proofs.Places.{phys-of-with, with-then}
+use Rattle.machine.proofs.Places.{phys-of-with, behind-with}
 use Rattle.machine.proofs.Happenings.{Rising, Split, Leaves, happened-stop, happened-finish, one-clock}
 use Rattle.machine.proofs.Turns.{within, rejoined}
 use Rattle.machine.proofs.Quiet.{bare, put-back, quiet-line, quiet-bare}
+use Rattle.machine.proofs.HappensEffect.{happens-effect}
+use Rattle.machine.proofs.HappensLine.{happens-line}
 use Rattle.machine.proofs.Lockstep.{physAfter, drivesIn, length-stays, phys-next}
 
-take-map : {A B : Type 0} (f : A → B) (n : ℕ) (xs : List A) → take n (map f xs) ≡ map f (take n xs)
+pub take-map : {A B : Type 0} (f : A → B) (n : ℕ) (xs : List A) → take n (map f xs) ≡ map f (take n xs)
 take-map f zero xs = refl
 take-map f (suc n) [] = refl
 take-map f (suc n) (x ∷ xs) = ap (λ ys. f x ∷ ys) (take-map f n xs)
@@ -134,6 +138,32 @@ module _ {start now : Board} {lines : List Line} {phys : List Phy} (shows : Show
           phys = (ap₂ (λ ps n. ps ++ drop n (now .phys)) all (shows .counted) ∙ ap (λ qs. phys ++ qs) (shows .beyond)) j;
         }
 
+-- The events after a clock act on the board's PHYs without their lines, and leave the lines
+module _ (events : List ℕ) (c : ℕ) where
+  bare-happens : (phys : List Phy) → map bare (map (happens events c) phys) ≡ map (happens events c) (map bare phys)
+  bare-happens = map-past (happens events c) bare (λ phy. sym (happens-effect events c .blind (Hunting 0) 0 phy))
+
+  pub events-shown : {start now : Board} {lines : List Line} {phys : List Phy} → Shows start now lines phys → Shows start (withPhys now (map (happens events c) (physOf now))) lines (map (happens events c) phys)
+  events-shown {start} {now} {lines} {phys} shows =
+      let after = withPhys now (map (happens events c) (physOf now)) in
+      let same : length (map (happens events c) (physOf now)) ≡ length (physOf now) = length-map (physOf now) (happens events c) in
+      let count = shows .counted in
+      record {
+        counted = count;
+        beyond =
+            ap (λ n. drop n (after .phys)) (sym count)
+            ∙ behind-with now (map (happens events c) (physOf now)) same
+            ∙ ap (λ n. drop n (now .phys)) count
+            ∙ shows .beyond;
+        bares =
+            ap (λ n. map bare (take n (after .phys))) (sym count)
+            ∙ ap (map bare) (phys-of-with now (map (happens events c) (physOf now)) same)
+            ∙ bare-happens (physOf now)
+            ∙ ap (map (happens events c)) (ap (λ n. map bare (take n (now .phys))) count ∙ shows .bares)
+            ∙ sym (bare-happens phys);
+        lines-are = shows .lines-are ∙ sym (map-then lineOf (happens events c) lineOf (happens-line events c) phys);
+      }
+
 -- where no record is due the events of the clock change nothing
 module _ (events : List ℕ) (rising : Rising events) (c next : ℕ) (split : Split events c next) (due : isDue events next c ≡ false) where
   nothing : (board : Board) → happenedFrom events c next (records eventRecord events - next) board ≡ record { board = board; next = next }
@@ -189,17 +219,15 @@ module _ (events steps log₀ : List ℕ) (start : Board) where
             splits = split-later events rising (suc c) next (stands .splits) due;
           }
 
-      -- the events of the clock happen to the whole board
-      pub happening : (whole-board : Board) (happened : Happened) → whole-board ≡ joinedBoard lines′ now′ → happened ≡ happenedFrom events (suc c) next (records eventRecord events - next) whole-board
-          → Stands log′ (happened .board) (happened .next) (map lineOf (happened .board .phys)) (suc c)
-      happening whole-board happened is-joined is =
-          let leaves = subst (λ (r : Happened). Leaves events (suc (suc c)) (map (happens events (suc c))) whole-board r) (sym is) (one-clock events rising (suc c) next whole-board (stands .splits)) in
-          let clocked = map (clock level) (phys c) in
-          let same : length clocked ≡ length (physOf start) = length-map (phys c) (clock level) ∙ length-stays events steps (physOf start) c in
-          let through = with-then start whole-board clocked (map (happens events (suc c))) same (is-joined ∙ joined sampled (same ∙ full)) in
+      -- the events of the clock happen
+      pub happening : (happened : Happened) → happened ≡ happenedFrom events (suc c) next (records eventRecord events - next) now′ → Stands log′ (happened .board) (happened .next) lines′ (suc c)
+      happening happened is =
+          let leaves = subst (λ (r : Happened). Leaves events (suc (suc c)) (map (happens events (suc c))) now′ r) (sym is) (one-clock events rising (suc c) next now′ (stands .splits)) in
           record {
             gone = omega arith;
             logged = put;
-            shows = whole start (happened .board) (phys (suc c)) (length-stays events steps (physOf start) (suc c)) full (leaves .board-is ∙ through ∙ ap (withPhys start) (sym after-clock));
+            shows =
+                subst (λ (b : Board). Shows start b lines′ (phys (suc c))) (sym (leaves .board-is))
+                (subst (Shows start (withPhys now′ (map (happens events (suc c)) (physOf now′))) lines′) (sym after-clock) (events-shown events (suc c) sampled));
             splits = leaves .splits;
           }

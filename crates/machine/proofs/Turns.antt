@@ -4,7 +4,7 @@ use mathlib.Core.Path.{_≡_, refl, sym, ap, _∙_}
 use mathlib.Core.List.{List, [], _∷_, map, append-nil}
 use native.Mathlib.Numerals.{add-one}
 use native.Mathlib.Omega.{arith}
-use lib.ListN.{length, getD, set, take, drop, drop-of-length-le, length-append, length-map, length-take, length-drop}
+use lib.ListN.{length, getD, set, take, drop, drop-of-length-le, length-append, length-map, length-take, length-drop, List·getD-map}
 use lib.Seq.{drop-cons, getD-at, length-take-le, take-all, getD-take}
 use Rattle.verdict.specs.Output.{tabulate}
 use Rattle.verdict.proofs.Lists.{length-tabulate, tabulate-of, map-tabulate}
@@ -39,6 +39,10 @@ module _ {A : Type 0} where
   -- the first n elements, one by one
   pub tabulate-take : (n : ℕ) (xs : List A) (d : A) → n ≤ length xs → tabulate n (λ i. getD xs i d) ≡ take n xs
   tabulate-take n xs d h = sym (tabulate-of n (λ i. getD xs i d) (take n xs) d (length-take-le n xs h) (λ i l. getD-take n xs i d l))
+
+-- what a map makes of the element at a place
+pub map-at : {A B : Type 0} (f : A → B) (xs : List A) (i : ℕ) (d : A) (e : B) → i < length xs → getD (map f xs) i e ≡ f (getD xs i d)
+map-at f xs i d e h = within (map f xs) i e (f d) (omega (arith, length-map xs f)) ∙ List·getD-map f xs i d
 
 -- and what is made of each
 pub tabulate-map : {A B : Type 0} (g : A → B) (n : ℕ) (xs : List A) (d : A) → n ≤ length xs → tabulate n (λ i. g (getD xs i d)) ≡ map g (take n xs)

@@ -1,18 +1,24 @@
 -- What acts on every PHY of a board at once, and the events of a file one after the other: the document's sentences stand in Events and Plain.
 use Prim.Native.Nat.{ℕ, zero, suc, _-_}
-use mathlib.Core.Bool.{cond}
+use mathlib.Core.Bool.{Bool, cond}
 use mathlib.Core.List.{List, map}
 use lib.Dec.{eqb, leb}
 use Rattle.verdict.specs.File.{records}
 use Rattle.phy.specs.declared.Phy.{Phy}
 use Rattle.phy.specs.Events.{event}
-use Rattle.phy.specs.Clock.{afterHeader, afterFrame}
+use Rattle.phy.specs.Clock.{answers, stores, afterHeader, afterFrame}
 use Rattle.board.specs.declared.Board.{Board}
 use Rattle.board.specs.Events.{eventRecord, eventClock, eventAddress, eventCode}
 use Rattle.machine.specs.declared.acts.Act.{Act}
 use Rattle.machine.specs.declared.acts.Act.the-variants.{Happens, HeaderEnds, FrameEnds}
 use Rattle.machine.specs.declared.events.Happened.{Happened}
 use Rattle.machine.specs.Outcome.{physOf, withPhys}
+
+-- whether an act is for a PHY
+unfoldable pub isActFor : Act → Phy → Bool
+isActFor (Happens address code) phy = eqb address (phy .address)
+isActFor (HeaderEnds header) phy = answers header phy
+isActFor (FrameEnds header word) phy = stores header phy
 
 -- what an act does to a PHY
 unfoldable pub actOn : Act → Phy → Phy

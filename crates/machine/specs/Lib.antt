@@ -6,5 +6,6 @@ pub mod Run
 pub mod Plain
 pub mod Transact
 pub mod Lines
+pub mod Common
 pub mod Clocks
 pub mod Computing

@@ -2,7 +2,7 @@
 use Prim.Native.Nat.{ℕ, _+_, _*_, _-_}
 use mathlib.Core.Bool.{Bool, true, false, _&&_, _||_, cond}
 use mathlib.Core.List.{List, [], _∷_}
-use lib.ListN.{getD}
+use lib.ListN.{getD, replicate}
 use lib.Dec.{eqb, ltb, leb}
 use Rattle.frame.specs.Frame.{headerBits, frameBits}
 use Rattle.frame.specs.List.{read, write}
@@ -12,13 +12,12 @@ use Rattle.wire.specs.declared.Follower.{Follower}
 use Rattle.wire.specs.declared.Follower.the-variants.{Hunting, Inside}
 use Rattle.wire.specs.declared.Header.{Header}
 use Rattle.wire.specs.Wire.{asBit}
-use Rattle.wire.specs.Follower.{oneMore, follow, headerSeen, answering}
+use Rattle.wire.specs.Follower.{oneMore, follow, headerSeen}
 use Rattle.phy.specs.declared.Phy.{Phy}
-use Rattle.phy.specs.Abilities.{one}
 use Rattle.phy.specs.Words.{setBit}
 use Rattle.phy.specs.Fields.{withLine}
 use Rattle.phy.specs.Sound.{nowhere}
-use Rattle.phy.specs.Clock.{enough}
+use Rattle.phy.specs.Clock.{fresh, enough, drives}
 use Rattle.verdict.specs.File.{records}
 use Rattle.verdict.specs.Output.{tabulate}
 use Rattle.board.specs.Events.{eventRecord, eventClock}
@@ -39,19 +38,16 @@ lineOf phy =
       captured = phy .captured;
     }
 
--- what the line says of its PHY: whether it answers a header, and what it drives in the next clock
-unfoldable pub lineAnswers : Header → Line → Bool
-lineAnswers header line =
-    eqb (header .op) read
-    && (eqb (header .address) (line .address) && (ltb (header .register) 32 && one (header .register) (line .implemented)))
+-- a PHY with a line's follower and captured word
+abbrev pub onto : Line → Phy → Phy
+onto line phy = withLine (line .follower) (line .captured) phy
 
-unfoldable pub lineDrivesIn : Follower → Line → Drive
-lineDrivesIn (Hunting ones) line = Released
-lineDrivesIn (Inside seen bits) line =
-    cond (lineAnswers (headerSeen seen bits) line) (answering seen (line .captured)) Released
+-- what the line says of its PHY: what it drives in the next clock. Its words have no part in that: any others serve
+abbrev pub wordless : Line → Phy
+wordless line = onto line (fresh (line .address) (line .implemented) (replicate 32 0) (replicate 32 0))
 
 abbrev pub lineDrives : Line → Drive
-lineDrives line = lineDrivesIn (line .follower) line
+lineDrives line = drives (wordless line)
 
 -- whether the next bit may end an own read's header or ends an own write: only there the whole PHY acts. Op and address are known before that bit, whatever its level
 abbrev pub isOwn : ℕ → Header → Line → Bool
@@ -85,10 +81,6 @@ lineFollows level line =
 -- what a list of lines reads past its end
 abbrev pub noLine : Line
 noLine = record { address = 0; implemented = 0; enough = 0; follower = Hunting 0; captured = 0 }
-
--- a PHY with a line's follower and captured word
-abbrev pub onto : Line → Phy → Phy
-onto line phy = withLine (line .follower) (line .captured) phy
 
 -- a board with its lines put back
 unfoldable pub joinedBoard : List Line → Board → Board

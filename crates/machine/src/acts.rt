@@ -4,7 +4,7 @@ use phy::Phy;
 use wire::Header;
 ghost use mathlib.Core.Path.{_≡_};
 ghost use Prim.Native.Nat.{_≤_};
-ghost use Rattle.machine.specs.Acts.{actOn, actOnAll};
+ghost use Rattle.machine.specs.Acts.{isActFor, actOn, actOnAll};
 
 pub(crate) enum Act {
     // An event: the address that it is for, and its code.
@@ -16,6 +16,17 @@ pub(crate) enum Act {
 }
 
 impl Act {
+    // Whether it is for a PHY: it does nothing to others.
+    fn is_for(self, phy: Phy) -> bool
+        ensures { λ r. ⌜ r ≡ isActFor self phy ⌝ }
+    {
+        match self {
+            Act::Happens(address, _) => address == phy.address,
+            Act::HeaderEnds(header) => phy.answers(header),
+            Act::FrameEnds(header, _) => phy.stores(header),
+        }
+    }
+
     fn on(self, phy: Phy) -> Phy
         ensures { λ r. ⌜ r ≡ actOn self phy ⌝ }
     {
@@ -33,7 +44,7 @@ impl Act {
     }
 }
 
-// An act on each PHY; whom it is not for stays.
+// An act on each PHY. Whom it is not for is not even copied.
 pub(crate) fn act_on_all(mut board: Board, act: Act) -> Board
     requires { ⌜ board .count ≤ 32 ⌝ }
     ensures { λ r. ⌜ r ≡ actOnAll act board ⌝ }
@@ -41,9 +52,10 @@ pub(crate) fn act_on_all(mut board: Board, act: Act) -> Board
     let count = board.count;
     let mut i: usize = 0;
     while i < count {
-        let phy = board.phys[i];
-        let next = act.on(phy);
-        board.phys[i] = next;
+        if act.is_for(board.phys[i]) {
+            let next = act.on(board.phys[i]);
+            board.phys[i] = next;
+        }
         i += 1;
     }
     board

@@ -8,7 +8,9 @@ ghost use Rattle.machine.specs.Lines.{isDue};
 ghost use Rattle.machine.specs.Run.{stepsVerdict, running, Ran};
 ghost use Rattle.machine.specs.Clocks.{Clocked};
 use crate::Outcome;
+use crate::common::Common;
 use crate::events::happen_until;
+use crate::hear::Heard;
 use crate::hear::hear;
 use crate::hear::station_drive;
 use crate::line::Line;
@@ -60,9 +62,10 @@ fn is_due(events: &[u8], next: usize, clock: usize) -> bool
     }
 }
 
-// All clocks of a run that is not refused. The loop over the lines stays inside the loop over the clocks: a board that
-// goes into and out of a call at every clock would take five times as long. A whole PHY is touched only where it may
-// act, and the board only where an event is due.
+// All clocks of a run that is not refused. Where the followers of all PHYs are alike a clock moves the common one; else it
+// goes over the lines. That loop stays inside the loop over the clocks: a board that goes into and out of a call at every
+// clock would take five times as long. A whole PHY is touched only where it may act or has an event, and an event leaves its
+// line.
 fn clock_by_clock(board: Board, steps: &[u8], events: &[u8], log: &mut [u8]) -> Board
     requires { ⌜ running board (now steps) (now events) (now log) ≡ Done (length (now steps) * logRecord) ⌝ }
     ensures { λ r. ⌜ Clocked board (now (steps .entry)) (now (events .entry)) (now (log .entry)) r (now (log .exit)) ⌝ }
@@ -72,16 +75,29 @@ fn clock_by_clock(board: Board, steps: &[u8], events: &[u8], log: &mut [u8]) -> 
     let mut now = start.board;
     let mut next = start.next;
     let mut lines = lines_of(now);
+    let mut common = Common::apart();
     let mut c: usize = 0;
     while c < steps.len() {
-        let heard = hear(lines, count, station_drive(steps[c]));
+        let drive = station_drive(steps[c]);
+        let heard = if common.is_silent() {
+            Heard::station(drive)
+        } else {
+            hear(lines, common, count, drive)
+        };
         let at = c * Frame::LOG_RECORD;
         let end = at + Frame::LOG_RECORD;
         heard.put(&mut log[at..end]);
         let level = heard.level;
+        c += 1;
+        let due = is_due(events, next, c);
+        if common.moves_alike(level) & !due {
+            common = common.follows(level);
+            continue;
+        }
+        let mut gathered = Common::led_by(common.stands(lines[0]).follows(level));
         let mut i: usize = 0;
         while i < count {
-            let line = lines[i];
+            let line = common.stands(lines[i]);
             if line.acts() {
                 let phy = line.onto(now.phys[i]).clock(level);
                 now.phys[i] = phy;
@@ -89,18 +105,17 @@ fn clock_by_clock(board: Board, steps: &[u8], events: &[u8], log: &mut [u8]) -> 
             } else {
                 lines[i] = line.follows(level);
             }
+            gathered = gathered.with(lines[i]);
             i += 1;
         }
-        c += 1;
-        if is_due(events, next, c) {
-            let happened = happen_until(join_all(now, lines), events, next, c);
+        common = gathered;
+        if due {
+            let happened = happen_until(now, events, next, c);
             now = happened.board;
             next = happened.next;
-            let taken = lines_of(now);
-            lines = taken;
         }
     }
-    join_all(now, lines)
+    join_all(now, lines, common)
 }
 
 // Runs the steps on a board, with the events between clocks, and writes a record of each clock to the log's start.

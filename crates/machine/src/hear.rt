@@ -4,7 +4,9 @@ ghost use Prim.Native.Nat.{_≤_, _<_};
 ghost use lib.ListN.{length, take};
 ghost use Rattle.wire.specs.Wire.{stationDrive, asBit};
 ghost use Rattle.verdict.specs.Lists.{All};
+ghost use Rattle.machine.specs.Common.{standing};
 ghost use Rattle.machine.specs.Lines.{heardStation, hears, heardFrom, recordOf};
+use crate::common::Common;
 use crate::line::Line;
 use wire::Drive;
 
@@ -43,7 +45,7 @@ impl Heard {
     pub(crate) const SEVERAL: u8 = 4;
 
     // The station alone.
-    fn station(drive: Drive) -> Heard
+    pub(crate) fn station(drive: Drive) -> Heard
         ensures { λ r. ⌜ r ≡ heardStation drive ⌝ }
     {
         match drive {
@@ -104,14 +106,14 @@ impl Heard {
 }
 
 // What is heard of the station and of the first `count` lines.
-pub(crate) fn hear(lines: [Line; 32], count: usize, drive: Drive) -> Heard
-    requires { ⌜ (count ≤ 32) × All (λ line. line .address < 32) (take count lines) ⌝ }
-    ensures { λ r. ⌜ r ≡ heardFrom (heardStation drive) (take count lines) ⌝ }
+pub(crate) fn hear(lines: [Line; 32], common: Common, count: usize, drive: Drive) -> Heard
+    requires { ⌜ (count ≤ 32) × All (λ line. line .address < 32) (take count (standing common lines)) ⌝ }
+    ensures { λ r. ⌜ r ≡ heardFrom (heardStation drive) (take count (standing common lines)) ⌝ }
 {
     let mut heard = Heard::station(drive);
     let mut i: usize = 0;
     while i < count {
-        let line = lines[i];
+        let line = common.stands(lines[i]);
         heard = heard.with(line);
         i += 1;
     }

@@ -2,6 +2,7 @@
 // the plain machine).
 mod acts;
 mod clocks;
+mod common;
 mod events;
 mod hear;
 mod line;

@@ -1,10 +1,11 @@
 // What the wire needs of a PHY at every clock, in a few bytes, so that a clock touches no whole PHY unless one acts.
 ghost use mathlib.Core.Path.{_≡_};
-ghost use Prim.Native.Nat.{_≤_, _<_};
+ghost use Prim.Native.Nat.{_≤_};
 ghost use Rattle.phy.specs.Fields.{withLine};
 ghost use mathlib.Core.List.{map};
-ghost use Rattle.wire.specs.Follower.{answering};
-ghost use Rattle.machine.specs.Lines.{lineOf, lineAnswers, lineDrives, isOwn, lineActs, captures, lineFollows, joinedBoard};
+ghost use Rattle.machine.specs.Common.{standing};
+ghost use Rattle.machine.specs.Lines.{lineOf, lineDrives, isOwn, lineActs, captures, lineFollows, joinedBoard};
+use crate::common::Common;
 use board::Board;
 use frame::Transaction;
 use phy::Phy;
@@ -21,15 +22,6 @@ pub(crate) struct Line {
 }
 
 impl Line {
-    // The bits of a frame that are seen before its 14th one, with it, and before an answer starts.
-    const BEFORE_HEADER: u8 = 13;
-
-    const HEADER: u8 = 14;
-
-    const BEFORE_ANSWER: u8 = 15;
-    // A whole frame divided by this is its header.
-    const BEHIND_HEADER: u32 = 0x4_0000;
-
     pub(crate) fn of(phy: Phy) -> Line
         ensures { λ r. ⌜ r ≡ lineOf phy ⌝ }
     {
@@ -63,48 +55,13 @@ impl Line {
         }
     }
 
-    // Whether a header is an own read of an implemented register.
-    fn answers(self, header: Header) -> bool
-        ensures { λ r. ⌜ r ≡ lineAnswers header self ⌝ }
-    {
-        if header.register >= Phy::REGISTERS {
-            return false;
-        }
-        (header.op == Transaction::READ)
-            & ((header.address == self.address) & ((self.implemented >> header.register) % 2 == 1))
-    }
-
-    // What an answer drives after this many frame bits: 0 for bit 16, then the captured word.
-    fn answer_bit(seen: u8, captured: u16) -> Drive
-        requires { ⌜ (15 ≤ seen) × (seen ≤ 31) ⌝ }
-        ensures { λ r. ⌜ r ≡ answering seen captured ⌝ }
-    {
-        if seen == Line::BEFORE_ANSWER {
-            return Drive::Driven(false);
-        }
-        Drive::Driven((captured >> (Follower::MOST_SEEN - seen)) % 2 == 1)
-    }
-
-    // What the PHY drives in the next clock.
+    // What the PHY drives in the next clock. Its words have no part in that: any others serve.
     pub(crate) fn drives(self) -> Drive
         ensures { λ r. ⌜ r ≡ lineDrives self ⌝ }
     {
-        let follower = self.follower;
-        let Follower::Inside(seen, bits) = follower else {
-            return Drive::Released;
-        };
-        if seen < Line::BEFORE_ANSWER {
-            return Drive::Released;
-        }
-        if seen > Follower::MOST_SEEN {
-            return Drive::Released;
-        }
-        let header = Header::of(bits >> (seen - Line::HEADER));
-        if self.answers(header) {
-            Line::answer_bit(seen, self.captured)
-        } else {
-            Drive::Released
-        }
+        let words = [0u16; 32];
+        let wordless = Phy::fresh(self.address, self.implemented, words, words);
+        self.onto(wordless).drives()
     }
 
     // Whether an op and an address are a header's op and this PHY's address.
@@ -124,12 +81,9 @@ impl Line {
         };
         let shifted = bits % 2147483648 * 2;
         match seen {
-            Line::BEFORE_HEADER => self.is_own(Transaction::READ, Header::of(shifted)),
+            Phy::BEFORE_HEADER => self.is_own(Transaction::READ, Header::of(shifted)),
             Follower::MOST_SEEN => {
-                self.is_own(
-                    Transaction::WRITE,
-                    Header::of(shifted / Line::BEHIND_HEADER),
-                )
+                self.is_own(Transaction::WRITE, Header::of(shifted / Phy::TAIL_VALUES))
             }
             _ => false,
         }
@@ -180,15 +134,15 @@ pub(crate) fn lines_of(board: Board) -> [Line; 32]
     lines
 }
 
-// The board with its lines put back.
-pub(crate) fn join_all(mut board: Board, lines: [Line; 32]) -> Board
+// The board with its lines put back, as they stand.
+pub(crate) fn join_all(mut board: Board, lines: [Line; 32], common: Common) -> Board
     requires { ⌜ board .count ≤ 32 ⌝ }
-    ensures { λ r. ⌜ r ≡ joinedBoard lines board ⌝ }
+    ensures { λ r. ⌜ r ≡ joinedBoard (standing common lines) board ⌝ }
 {
     let count = board.count;
     let mut i: usize = 0;
     while i < count {
-        let line = lines[i];
+        let line = common.stands(lines[i]);
         let phy = line.onto(board.phys[i]);
         board.phys[i] = phy;
         i += 1;

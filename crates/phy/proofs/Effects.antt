@@ -18,7 +18,7 @@ use Rattle.phy.specs.Fields.{registerOf, defaultOf, maskOf, withBank, wi
 use Rattle.phy.specs.Control.{reset, newControl, newStatus, newBit12, writeControl}
 use Rattle.phy.specs.Registers.{implements, inReset, masked, writeOrdinary, heldAfter, readStatus, afterRead, writeBy, afterWrite}
 use Rattle.phy.specs.Events.{linkUp, linkDown, remoteFault, jabber, negotiationComplete, restartDone, resetDone, completes, happening, event}
-use Rattle.phy.specs.Clock.{answers, stores, afterHeader, afterFrame}
+use Rattle.phy.specs.Clock.{enough, answers, stores, afterHeader, afterFrame}
 use Rattle.phy.specs.Typed.{Words, StatusFixed}
 use Rattle.phy.proofs.Words.{set-other, clear-other, set-lt, clear-lt, picked-lt}
 use Rattle.phy.proofs.NewBits.{control-parts}
@@ -30,6 +30,11 @@ pub record Effect (f : Phy → Phy) : Type 0 where
   pub bank : (phy : Phy) → f phy ≡ withBank (f phy .registers) (f phy .link) phy
   pub fixed : (phy : Phy) → StatusFixed phy → StatusFixed (f phy)
   pub typed : (phy : Phy) → Words (phy .defaults) → Words (phy .registers) → Words (f phy .registers)
+
+-- an effect that leaves 1.6 too: as many ones are enough after it
+pub record Gentle (f : Phy → Phy) : Type 0 where
+  pub effect : Effect f
+  pub suffices : (phy : Phy) → enough (f phy) ≡ enough phy
 
 -- doing nothing is an effect
 pub nothing : Effect (λ phy. phy)
@@ -73,6 +78,19 @@ either test same f g ef eg =
     types phy d r true = ef .typed phy d r
     types phy d r false = eg .typed phy d r
 
+-- both of gentle ones
+pub gently-nothing : Gentle (λ phy. phy)
+gently-nothing = record { effect = nothing; suffices = λ phy. refl }
+
+pub gently-either : (test : Phy → Bool) → ((follower : Follower) (captured : ℕ) (phy : Phy) → test (withLine follower captured phy) ≡ test phy)
+    → (f g : Phy → Phy) → Gentle f → Gentle g → Gentle (λ phy. cond (test phy) (f phy) (g phy))
+gently-either test same f g gf gg =
+    record { effect = either test same f g (gf .effect) (gg .effect); suffices = λ phy. go phy (test phy) }
+  where
+    go : (phy : Phy) (t : Bool) → enough (cond t (f phy) (g phy)) ≡ enough phy
+    go phy true = gf .suffices phy
+    go phy false = gg .suffices phy
+
 -- what holds of the new element and of the old ones holds after a store
 stored : (P : ℕ → Type 0) (l : List ℕ) (i v j : ℕ) → P v → P (getD l j 0) → P (getD (set l i v) j 0)
 stored P [] i v j new old = old
@@ -94,15 +112,23 @@ Small change = (w : ℕ) → w < 2 ^ 16 → change w < 2 ^ 16
 
 -- a change of register 1's held bits, and of the link
 on-status : (change : Bool → ℕ → ℕ) (link : Bool → Bool) → ((l : Bool) → Kept (change l)) → ((l : Bool) → Small (change l))
-    → Effect (λ phy. withBank (set (phy .registers) 1 (change (phy .link) (registerOf 1 phy))) (link (phy .link)) phy)
+    → Gentle (λ phy. withBank (set (phy .registers) 1 (change (phy .link) (registerOf 1 phy))) (link (phy .link)) phy)
+unfolding enough
 on-status change link kept small =
     record {
-      blind = λ f w phy. refl;
-      bank = λ phy. refl;
-      fixed = λ phy h i below n5 n4 n2 n1.
-          stored (λ x. bit i x ≡ bit i (defaultOf 1 phy)) (phy .registers) 1 (change (phy .link) (registerOf 1 phy)) 1
-          (kept (phy .link) (registerOf 1 phy) i n5 n4 n2 n1 ∙ h i below n5 n4 n2 n1) (h i below n5 n4 n2 n1);
-      typed = λ phy d r. words-set (phy .registers) 1 (change (phy .link) (registerOf 1 phy)) r (small (phy .link) (registerOf 1 phy) (r .small 1));
+      effect =
+          record {
+            blind = λ f w phy. refl;
+            bank = λ phy. refl;
+            fixed = λ phy h i below n5 n4 n2 n1.
+                stored (λ x. bit i x ≡ bit i (defaultOf 1 phy)) (phy .registers) 1 (change (phy .link) (registerOf 1 phy)) 1
+                (kept (phy .link) (registerOf 1 phy) i n5 n4 n2 n1 ∙ h i below n5 n4 n2 n1) (h i below n5 n4 n2 n1);
+            typed = λ phy d r. words-set (phy .registers) 1 (change (phy .link) (registerOf 1 phy)) r (small (phy .link) (registerOf 1 phy) (r .small 1));
+          };
+      suffices = λ phy.
+          ap (λ (b : ℕ). cond (eqb b 1) 1 32)
+          (stored (λ x. bit 6 x ≡ bit 6 (registerOf 1 phy)) (phy .registers) 1 (change (phy .link) (registerOf 1 phy)) 1
+          (kept (phy .link) (registerOf 1 phy) 6 (omega arith) (omega arith) (omega arith) (omega arith)) refl);
     }
 
 -- a change of another register
@@ -117,8 +143,13 @@ on-other r n1 change same small =
       typed = λ phy d w. words-set (phy .registers) r (change phy) w (small phy w);
     }
 
-on-link : (link : Bool) → Effect (λ phy. withBank (phy .registers) link phy)
-on-link link = record { blind = λ f w phy. refl; bank = λ phy. refl; fixed = λ phy h. h; typed = λ phy d r. r }
+on-link : (link : Bool) → Gentle (λ phy. withBank (phy .registers) link phy)
+unfolding enough
+on-link link =
+    record {
+      effect = record { blind = λ f w phy. refl; bank = λ phy. refl; fixed = λ phy h. h; typed = λ phy d r. r };
+      suffices = λ phy. refl;
+    }
 
 held-small : (l : Bool) → Small (heldAfter l)
 held-small true w h = set-lt 2 16 _ (omega arith) (clear-lt 1 16 _ (clear-lt 4 16 w h))
@@ -126,7 +157,7 @@ held-small false w h = clear-lt 2 16 _ (clear-lt 1 16 _ (clear-lt 4 16 w h))
 
 pub readStatus-effect : Effect readStatus
 unfolding readStatus
-readStatus-effect = on-status heldAfter (λ l. l) (λ l w i n5 n4 n2 n1. held-others l w i n4 n2 n1) held-small
+readStatus-effect = on-status heldAfter (λ l. l) (λ l w i n5 n4 n2 n1. held-others l w i n4 n2 n1) held-small .effect
 
 pub afterRead-effect : (r : ℕ) → Effect (afterRead r)
 unfolding afterRead
@@ -201,39 +232,47 @@ afterWrite-effect r word =
     either (λ phy. implements r phy && not (inReset phy)) (λ f w phy. refl) (writeBy r word) (λ phy. phy) (writeBy-effect r word) nothing
 
 -- events
-set-effect : (i : ℕ) → ((j : ℕ) → (j ≡ 5 → ⊥) → (j ≡ 4 → ⊥) → (j ≡ 2 → ⊥) → (j ≡ 1 → ⊥) → j ≡ i → ⊥) → i < 16
-    → Effect (λ phy. withBank (set (phy .registers) 1 (setBit i (registerOf 1 phy))) (phy .link) phy)
-set-effect i held small =
+sets-gently : (i : ℕ) → ((j : ℕ) → (j ≡ 5 → ⊥) → (j ≡ 4 → ⊥) → (j ≡ 2 → ⊥) → (j ≡ 1 → ⊥) → j ≡ i → ⊥) → i < 16
+    → Gentle (λ phy. withBank (set (phy .registers) 1 (setBit i (registerOf 1 phy))) (phy .link) phy)
+sets-gently i held small =
     on-status (λ l. setBit i) (λ l. l) (λ l w j n5 n4 n2 n1. set-other i j w (held j n5 n4 n2 n1)) (λ l w h. set-lt i 16 w small h)
 
-clear-effect : (i : ℕ) → Effect (λ phy. withBank (set (phy .registers) 0 (clearBit i (registerOf 0 phy))) (phy .link) phy)
-clear-effect i = on-other 0 (omega arith) (λ phy. clearBit i (registerOf 0 phy)) (λ f w phy. refl) (λ phy w. clear-lt i 16 (registerOf 0 phy) (w .small 0))
+clears-gently : (i : ℕ) → Gentle (λ phy. withBank (set (phy .registers) 0 (clearBit i (registerOf 0 phy))) (phy .link) phy)
+unfolding enough
+clears-gently i =
+    record {
+      effect = on-other 0 (omega arith) (λ phy. clearBit i (registerOf 0 phy)) (λ f w phy. refl) (λ phy w. clear-lt i 16 (registerOf 0 phy) (w .small 0));
+      suffices = λ phy. ap (λ (w : ℕ). cond (one 6 w) 1 32) (getD-set-other (phy .registers) 0 1 (clearBit i (registerOf 0 phy)) 0 (omega arith));
+    }
 
-completes-effect : Effect completes
+completes-gently : Gentle completes
 unfolding completes
-completes-effect =
-    either (λ phy. one 12 (registerOf 0 phy) && not (one 9 (registerOf 0 phy))) (λ f w phy. refl) _ (λ phy. phy)
-    (set-effect 5 (λ j n5 n4 n2 n1. n5) (omega arith)) nothing
+completes-gently =
+    gently-either (λ phy. one 12 (registerOf 0 phy) && not (one 9 (registerOf 0 phy))) (λ f w phy. refl) _ (λ phy. phy)
+    (sets-gently 5 (λ j n5 n4 n2 n1. n5) (omega arith)) gently-nothing
 
-pub happening-effect : (code : ℕ) → Effect (happening code)
+happening-gently : (code : ℕ) → Gentle (happening code)
 unfolding happening
-happening-effect code =
+happening-gently code =
     by linkUp (on-link true)
     (by linkDown (on-status (λ l. clearBit 2) (λ l. false) (λ l w j n5 n4 n2 n1. clear-other 2 j w n2) (λ l w h. clear-lt 2 16 w h))
-    (by remoteFault (set-effect 4 (λ j n5 n4 n2 n1. n4) (omega arith))
-    (by jabber (set-effect 1 (λ j n5 n4 n2 n1. n1) (omega arith))
-    (by negotiationComplete completes-effect
-    (by restartDone (clear-effect 9)
-    (by resetDone (clear-effect 15)
-    nothing))))))
+    (by remoteFault (sets-gently 4 (λ j n5 n4 n2 n1. n4) (omega arith))
+    (by jabber (sets-gently 1 (λ j n5 n4 n2 n1. n1) (omega arith))
+    (by negotiationComplete completes-gently
+    (by restartDone (clears-gently 9)
+    (by resetDone (clears-gently 15)
+    gently-nothing))))))
   where
-    by : (number : ℕ) {f g : Phy → Phy} → Effect f → Effect g → Effect (λ phy. cond (eqb code number) (f phy) (g phy))
-    by number {f} {g} ef eg = either (λ phy. eqb code number) (λ l w phy. refl) f g ef eg
+    by : (number : ℕ) {f g : Phy → Phy} → Gentle f → Gentle g → Gentle (λ phy. cond (eqb code number) (f phy) (g phy))
+    by number {f} {g} gf gg = gently-either (λ phy. eqb code number) (λ l w phy. refl) f g gf gg
+
+pub event-gently : (code : ℕ) → Gentle (event code)
+unfolding event inReset
+event-gently code =
+    gently-either (λ phy. inReset phy && not (eqb code resetDone)) (λ f w phy. refl) (λ phy. phy) (happening code) gently-nothing (happening-gently code)
 
 pub event-effect : (code : ℕ) → Effect (event code)
-unfolding event inReset
-event-effect code =
-    either (λ phy. inReset phy && not (eqb code resetDone)) (λ f w phy. refl) (λ phy. phy) (happening code) nothing (happening-effect code)
+event-effect code = event-gently code .effect
 
 -- headers and frames
 pub afterHeader-effect : (header : Header) → Effect (afterHeader header)

@@ -15,13 +15,13 @@ impl Phy {
     // The ones that a PHY which accepts suppressed preambles needs before a frame.
     pub const SUPPRESSED_ONES: u8 = 1;
     // Of a frame's bits, those seen before the header's last one, and those of the header.
-    const BEFORE_HEADER: u8 = 13;
+    pub const BEFORE_HEADER: u8 = 13;
 
     const HEADER: u8 = 14;
     // The bits seen before the clock in which an answer starts: it drives 0 for bit 16.
-    const BEFORE_ANSWER: u8 = 15;
+    pub const BEFORE_ANSWER: u8 = 15;
     // How many values the 18 bits behind a header have, and the last 16 of them, the data.
-    const TAIL_VALUES: u32 = 0x4_0000;
+    pub const TAIL_VALUES: u32 = 0x4_0000;
 
     const DATA_VALUES: u32 = 0x1_0000;
     // How many values a frame has without its last bit.

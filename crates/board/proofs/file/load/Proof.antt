@@ -62,8 +62,8 @@ add-zero c = search needs
 shared-slice-read-zero : tie.Need-shared-slice-read-zero Inv-loop μ-loop
 shared-slice-read-zero c = search needs
 
-has-address-requires : tie.Need-has-address-requires Inv-loop μ-loop
-has-address-requires c κs = search needs
+used-before-requires : tie.Need-used-before-requires Inv-loop μ-loop
+used-before-requires c κs = search needs
 
 judge-requires : tie.Need-judge-requires Inv-loop μ-loop
 judge-requires c κs = search needs
@@ -85,7 +85,7 @@ unfolding loaded
 returns-3 c =
     let file = c .before .before .before .before .before .before .before .before .before .before .before .before .before .before .args .file .now in
     let turn = c .before .before .before .before .before .before .before .before .before .loop in
-    let same = found-fault file (replicate 32 blank) (turn .k) (turn .phys) _ _ (turn .inv .1) (c .before .before .before .before .before .before .before .phy-at .ensures) (c .before .before .before .before .before .has-address .ensures) in
+    let same = found-fault file (turn .k) _ _ (c .before .before .before .before .before .before .before .phy-at .ensures) (c .before .before .before .before .before .used-before .ensures) in
     let parse = c .before .before .enum-told2 .given .1 in
     let found = bad-fails (recordFault file (turn .k)) _ (ap recordOf (sym same) ∙ sym (c .before .before .before .before .judge .ensures) ∙ parse) in
     let number = c .before .refusal .ensures ∙ ap refusalOf parse ∙ found .2 in
@@ -108,7 +108,7 @@ loop-again : tie.Need-loop-again Inv-loop μ-loop
 loop-again c =
     let file = c .before .before .before .before .before .before .before .before .before .before .before .before .args .file .now in
     let turn = c .before .before .before .before .before .before .before .loop in
-    let same = found-fault file (replicate 32 blank) (turn .k) (turn .phys) _ _ (turn .inv .1) (c .before .before .before .before .before .phy-at .ensures) (c .before .before .before .has-address .ensures) in
+    let same = found-fault file (turn .k) _ _ (c .before .before .before .before .before .phy-at .ensures) (c .before .before .before .used-before .ensures) in
     let passes = good-passes (recordFault file (turn .k)) (ap recordOf (sym same) ∙ sym (c .before .before .judge .ensures) ∙ c .enum-told .given .1) in (
       search needs,
       rw (c .before .before .before .before .before .phy-at .ensures, turn .inv .1) (fill-next (phyAt file) (replicate 32 blank) (turn .k) (search needs)),
@@ -140,7 +140,7 @@ load-spec =
     mul-zero
     add-zero
     shared-slice-read-zero
-    has-address-requires
+    used-before-requires
     judge-requires
     enum-told
     enum-told-2

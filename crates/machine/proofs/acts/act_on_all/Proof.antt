@@ -1,11 +1,16 @@
 -- Place by place: after i turns the first i PHYs are replaced.
 use Prim.Native.Nat.{_-_, _≤_}
-use mathlib.Core.Path.{_≡_, refl, ap, _∙_}
+use mathlib.Core.Path.{_≡_, refl, sym, ap, _∙_}
+use mathlib.Core.Bool.{false}
+use mathlib.Core.Logic.{⊎-elim}
 use native.Mathlib.Omega.{arith}
 use borrow.Author.Needs.{needs}
-use lib.ListN.{length, length-map}
-use Rattle.machine.specs.Acts.{actOn, actOnAll}
+use lib.ListN.{length, getD, set, length-map}
+use lib.Seq.{set-getD}
+use Rattle.phy.specs.Sound.{nowhere}
+use Rattle.machine.specs.Acts.{isActFor, actOn, actOnAll}
 use Rattle.machine.proofs.Places.{replaced, replace-next}
+use Rattle.machine.proofs.Happenings.{act-passes}
 use Rattle.machine.proofs.acts.act_on_all.Statement.{statement}
 use Rattle.machine.proofs.acts.act_on_all.Tie as tie
 
@@ -18,11 +23,20 @@ abbrev μ-loop : tie.MeasureT-loop
 loop-holds : tie.Need-loop-holds Inv-loop μ-loop
 loop-holds c = (search needs, refl, refl)
 
-mul-phy : tie.Need-mul-phy Inv-loop μ-loop
-mul-phy c = search needs
+mul-is-for : tie.Need-mul-is-for Inv-loop μ-loop
+mul-is-for c = search needs
 
-element-copy-out-phy : tie.Need-element-copy-out-phy Inv-loop μ-loop
-element-copy-out-phy c = search needs
+element-copy-out-is-for : tie.Need-element-copy-out-is-for Inv-loop μ-loop
+element-copy-out-is-for c = search needs
+
+is-for-requires : tie.Need-is-for-requires Inv-loop μ-loop
+is-for-requires c κs = search needs
+
+mul-on : tie.Need-mul-on Inv-loop μ-loop
+mul-on c = search needs
+
+element-copy-out-on : tie.Need-element-copy-out-on Inv-loop μ-loop
+element-copy-out-on c = search needs
 
 on-requires : tie.Need-on-requires Inv-loop μ-loop
 on-requires c κs = search needs
@@ -41,13 +55,18 @@ loop-less c = search needs
 
 loop-again : tie.Need-loop-again Inv-loop μ-loop
 loop-again c =
-    let start = c .before .before .before .before in
+    let turn = c .before .before .before .before in
+    let start = turn .before in
+    let loop = turn .loop in
+    let act = start .args .act in
+    let here = getD (loop .board .phys) (loop .i) nowhere in
     let places : length (start .args .t1 .phys) ≡ 32 = simp length-map at (start .good .0 .1 .1 .1 .0 .1 .0 .1) in
-    let loop = c .before .before .before .loop in (
-      search needs,
-      loop .inv .1,
-      replace-next (actOn (start .args .act)) (loop .i) (start .args .t1 .phys) (loop .board .phys) _ (c .on .result) (omega arith) (loop .inv .2) (c .on .ensures),
-    )
+    let next = replace-next (actOn act) (loop .i) (start .args .t1 .phys) (loop .board .phys) nowhere (actOn act here) (omega arith) (loop .inv .2) refl in
+    let other : isActFor act here ≡ false → set (loop .board .phys) (loop .i) (actOn act here) ≡ loop .board .phys = λ none. ap (set (loop .board .phys) (loop .i)) (act-passes act here none) ∙ set-getD (loop .board .phys) (loop .i) nowhere in
+    ⊎-elim
+    (λ w. (search needs, rw (w .3) (loop .inv .1), rw (w .3) (ap (set (loop .board .phys) (loop .i)) (w .2 .ensures) ∙ next)))
+    (λ w. (search needs, rw (w .1) (loop .inv .1), rw (w .1) (sym (other (sym (c .before .is-for .ensures) ∙ w .0 .left)) ∙ next)))
+    (c .if1 .came)
 
 returns : tie.Need-returns Inv-loop μ-loop
 unfolding actOnAll
@@ -64,8 +83,11 @@ act-on-all-spec =
     Inv-loop
     μ-loop
     loop-holds
-    mul-phy
-    element-copy-out-phy
+    mul-is-for
+    element-copy-out-is-for
+    is-for-requires
+    mul-on
+    element-copy-out-on
     on-requires
     mul-next
     element-set-from-next

@@ -1,12 +1,13 @@
--- Clock by clock, and in each line by line: the specified PHYs are the board's with their lines put back, and the log has its records.
+-- Clock by clock: the specified PHYs are the board's with their lines put back as they stand, and the log has its records. A clock moves the common follower, or goes line by line.
 use Prim.Native.Nat.{suc, _+_, _*_, _-_, _≤_, _<_}
-use mathlib.Core.Path.{_≡_, refl, sym, ap, subst, _∙_}
+use mathlib.Core.Path.{_≡_, refl, sym, ap, ap₂, subst, _∙_}
+use mathlib.Core.Bool.{Bool, true, false, not}
 use mathlib.Core.List.{List, map}
 use native.Mathlib.Omega.{arith}
 use native.Mathlib.Numerals.{add-one}
 use borrow.Rule.Slice.PartMut.{putMid}
 use mathlib.Core.Logic.{⊎-elim}
-use lib.ListN.{length, getD, set, length-map}
+use lib.ListN.{length, getD, set, take, length-map, length-set}
 use borrow.Author.Needs.{needs}
 use Rattle.verdict.specs.File.{byteAt}
 use Rattle.verdict.proofs.Outputs.{pieced}
@@ -14,32 +15,40 @@ use Rattle.wire.specs.Wire.{stationDrive, levelOf}
 use Rattle.phy.specs.declared.Phy.{Phy}
 use Rattle.phy.specs.Sound.{nowhere}
 use Rattle.phy.specs.Clock.{clock}
+use Rattle.phy.proofs.Every.{both}
 use Rattle.board.specs.declared.Board.{Board}
+use Rattle.machine.specs.declared.line.Line.{Line}
 use Rattle.machine.specs.declared.hear.Heard.{Heard}
 use Rattle.machine.specs.declared.events.Happened.{Happened}
 use Rattle.machine.specs.Outcome.{physOf}
-use Rattle.machine.specs.Lines.{joinedBoard}
+use Rattle.machine.specs.Lines.{noLine, onto, lineActs, lineFollows, heardStation, heardFrom}
+use Rattle.machine.specs.Common.{stands, standing}
 use Rattle.machine.proofs.Places.{replaced, replace-next}
 use Rattle.machine.proofs.Turns.{length-replaced, replaced-all}
 use Rattle.machine.proofs.Lockstep.{drivesIn}
 use Rattle.machine.proofs.Accepts.{Goes, goes}
 use Rattle.machine.proofs.Stands.{Shows, turn-acts, turn-follows, phys, piece, Stands, length-is, undue, happening}
 use Rattle.machine.proofs.Begins.{Begun, begins, start-count, start-full, lines-small, log-long, level-is, put-is, ends}
+use Rattle.machine.proofs.Alike.{standing-apart, hears-silent, all-follow, mixed, mixed-at, mixed-set, Gathered, gathered-next, gathered-all, lines-reach}
 use Rattle.machine.proofs.clocks.clock_by_clock.Statement.{statement}
 use Rattle.machine.proofs.clocks.clock_by_clock.Tie as tie
 
 abbrev Inv-loop2 : tie.InvT-loop2
-Inv-loop2 steps events log count now₀ next lines₀ c at end level i₀ now lines i =
-    (i ≤ count) × ((start : Board) (phys : List Phy) → start .count ≡ count → length phys ≡ count → Shows start now₀ lines₀ phys → Shows start now lines (replaced (clock level) i phys))
+Inv-loop2 steps events log count now₀ next lines₀ common c at end level due gathered₀ i₀ now lines gathered i =
+    (i ≤ count) × (length lines ≡ length lines₀) × Gathered gathered i lines
+    × ((start : Board) (phys : List Phy) → start .count ≡ count → length phys ≡ count → Shows start now₀ (standing common lines₀) phys → Shows start now (mixed (stands common) i lines) (replaced (clock level) i phys))
 
 abbrev μ-loop2 : tie.MeasureT-loop2
-μ-loop2 steps events log count now₀ next lines₀ c at end level i₀ now lines i = count - i
+μ-loop2 steps events log count now₀ next lines₀ common c at end level due gathered₀ i₀ now lines gathered i =
+    count - i
 
 abbrev Inv-loop : tie.InvT-loop
-Inv-loop steps events log₀ count now₀ next₀ lines₀ c₀ log now next lines c = Stands events steps log₀ now₀ log now next lines c
+Inv-loop steps events log₀ count now₀ next₀ lines₀ common₀ c₀ log now next lines common c =
+    Stands events steps log₀ now₀ log now next (standing common lines) c
 
 abbrev μ-loop : tie.MeasureT-loop
-μ-loop steps events log₀ count now₀ next₀ lines₀ c₀ log now next lines c = length steps - c
+μ-loop steps events log₀ count now₀ next₀ lines₀ common₀ c₀ log now next lines common c =
+    length steps - c
 
 -- the run is not refused
 known : (c : tie.Start Inv-loop2 μ-loop2 Inv-loop μ-loop) → Goes (c .args .board) (c .args .steps .now) (c .args .events .now) (c .args .log .now)
@@ -56,34 +65,43 @@ begun c =
 
 module _ (c : tie.At-loop Inv-loop2 μ-loop2 Inv-loop μ-loop) where
   abbrev start : tie.Start Inv-loop2 μ-loop2 Inv-loop μ-loop
-  start = c .before .before .before .before .before .before .before
+  start = c .before .before .before .before .before .before .before .before
 
   abbrev first : Happened
-  first = c .before .before .before .happen-until .result
+  first = c .before .before .before .before .happen-until .result
 
   abbrev head : Begun (start .args .board) (start .args .steps .now) (start .args .events .now) (start .args .log .now) first
-  head = begun (c .before .before .before)
+  head = begun (c .before .before .before .before)
 
   -- the log keeps its length, and has room
   room : (length (c .loop .log) ≡ length (start .args .log .now)) × (length (start .args .steps .now) * 5 ≤ length (start .args .log .now)) × (length (start .args .steps .now) ≤ 4160)
   room = (log-long head (c .loop .inv), known start .room, known start .few)
 
--- what was heard and written in this turn, where the loop over the lines begins
-module _ (c : tie.At-loop2 Inv-loop2 μ-loop2 Inv-loop μ-loop) where
+-- what was heard and written in this turn
+module _ (c : tie.After-slice-known2 Inv-loop2 μ-loop2 Inv-loop μ-loop) where
   abbrev at : tie.At-loop Inv-loop2 μ-loop2 Inv-loop μ-loop
   at = c .before .before .before .before .before .before .before .before .before
 
   abbrev heard : Heard
-  heard = c .before .before .before .before .before .hear .result
+  heard = c .before .before .before .before .if1 .heard
 
   step : c .before .before .before .before .before .before .station-drive .result ≡ stationDrive (byteAt (start at .args .steps .now) (at .loop .c))
   step = c .before .before .before .before .before .before .station-drive .ensures
 
-  level-heard : heard .level ≡ levelOf (drivesIn (start at .args .events .now) (start at .args .steps .now) (physOf (first at .board)) (at .loop .c))
-  level-heard = level-is (head at) (at .loop .inv) _ heard step (c .before .before .before .before .before .hear .ensures)
+  -- where it is known that no PHY drives the station alone is heard
+  all-heard : heard ≡ heardFrom (heardStation (c .before .before .before .before .before .before .station-drive .result)) (take (start at .args .board .count) (standing (at .loop .common) (at .loop .lines)))
+  all-heard =
+      let asked = c .before .before .before .before .before .is-silent .ensures in
+      ⊎-elim
+      (λ w. w .2 ∙ w .1 .ensures ∙ sym (hears-silent (at .loop .common) (sym asked ∙ w .0 .taken) _ (start at .args .board .count) (at .loop .lines)))
+      (λ w. w .2 ∙ w .1 .ensures)
+      (c .before .before .before .before .if1 .came)
 
-  record-put : putMid (at .loop .c * 5) (at .loop .c * 5 + 5 - at .loop .c * 5) (at .loop .log) (c .before .before .before .put .last .1 .0) ≡ pieced 5 (piece (start at .args .events .now) (start at .args .steps .now) (start at .args .log .now) (first at .board)) (start at .args .log .now) (suc (at .loop .c))
-  record-put = put-is (head at) (at .loop .inv) _ heard step (c .before .before .before .before .before .hear .ensures) _ (c .before .before .before .put .ensures)
+  level-heard : heard .level ≡ levelOf (drivesIn (start at .args .events .now) (start at .args .steps .now) (physOf (first at .board)) (at .loop .c))
+  level-heard = level-is (head at) (at .loop .inv) _ heard step all-heard
+
+  record-put : putMid (at .loop .c * 5) (at .loop .c * 5 + 5 - at .loop .c * 5) (at .loop .log) (c .before .before .put .last .1 .0) ≡ pieced 5 (piece (start at .args .events .now) (start at .args .steps .now) (start at .args .log .now) (first at .board)) (start at .args .log .now) (suc (at .loop .c))
+  record-put = put-is (head at) (at .loop .inv) _ heard step all-heard _ (c .before .before .put .ensures)
 
   more : at .loop .c < length (start at .args .steps .now)
   more = c .before .before .before .before .before .before .before .before .loop-test .taken
@@ -94,26 +112,44 @@ module _ (c : tie.At-loop2 Inv-loop2 μ-loop2 Inv-loop μ-loop) where
   abbrev specified : List Phy
   specified = phys (start at .args .events .now) (start at .args .steps .now) (start at .args .log .now) (first at .board) (at .loop .c)
 
+  reach : start at .args .board .count ≤ length (at .loop .lines)
+  reach = omega (arith, lines-reach (at .loop .common) (at .loop .lines) (at .loop .inv .shows) (length-is _ _ _ _ (start-full (head at)) (at .loop .inv)), start-count (head at))
+
   long : length specified ≡ start at .args .board .count
   long = length-is _ _ _ _ (start-full (head at)) (at .loop .inv) ∙ start-count (head at)
 
+-- where the loop over the lines begins or goes on
+module _ (c : tie.At-loop2 Inv-loop2 μ-loop2 Inv-loop μ-loop) where
+  abbrev written : tie.After-slice-known2 Inv-loop2 μ-loop2 Inv-loop μ-loop
+  written = c .before .before .before .before .before .before .before .before
+
   -- what the lines passed and those to come show
-  shown : Shows (first at .board) (c .loop2 .now) (c .loop2 .lines) (replaced (clock (heard .level)) (c .loop2 .i) specified)
-  shown = c .loop2 .inv .1 (first at .board) specified (start-count (head at)) long (at .loop .inv .shows)
+  shown : Shows (first (at written) .board) (c .loop2 .now) (mixed (stands (at written .loop .common)) (c .loop2 .i) (c .loop2 .lines)) (replaced (clock (heard written .level)) (c .loop2 .i) (specified written))
+  shown = c .loop2 .inv .3 (first (at written) .board) (specified written) (start-count (head (at written))) (long written) (at written .loop .inv .shows)
 
   places : c .loop2 .now .count ≤ 32
-  places = omega (arith, shown .counted, start-count (head at), known (start at) .sound .at-most)
+  places = omega (arith, shown .counted, start-count (head (at written)), known (start (at written)) .sound .at-most)
 
 -- all have sampled the level
-sampled : (c : tie.After-loop2 Inv-loop2 μ-loop2 Inv-loop μ-loop) → Shows (first (at (c .before)) .board) (c .before .loop2 .now) (c .before .loop2 .lines) (map (clock (heard (c .before) .level)) (specified (c .before)))
+sampled : (c : tie.After-loop2 Inv-loop2 μ-loop2 Inv-loop μ-loop) → Shows (first (at (written (c .before))) .board) (c .before .loop2 .now) (standing (c .before .loop2 .gathered) (c .before .loop2 .lines)) (map (clock (heard (written (c .before)) .level)) (specified (written (c .before))))
 sampled c =
     let turn = c .before in
-    let all : turn .loop2 .i ≡ length (specified turn) = omega (arith, long turn, turn .loop2 .inv .0, c .loop2-test .left) in
-    subst (Shows (first (at turn) .board) (turn .loop2 .now) (turn .loop2 .lines)) (replaced-all (clock (heard turn .level)) (turn .loop2 .i) (specified turn) all) (shown turn)
+    let w = written turn in
+    let loop = turn .loop2 in
+    let b = first (at w) .board in
+    let common = at w .loop .common in
+    let all : loop .i ≡ length (specified w) = omega (arith, long w, loop .inv .0, c .loop2-test .left) in
+    let places-all : loop .i ≡ b .count = omega (arith, long w, start-count (head (at w))) in
+    let shows = subst (Shows b (loop .now) (mixed (stands common) (loop .i) (loop .lines))) (replaced-all (clock (heard w .level)) (loop .i) (specified w) all) (shown turn) in
+    gathered-all common (loop .gathered) (loop .lines) (loop .i) places-all (loop .inv .2) shows
 
 -- a line that is passed stands in one of the places
 small : (c : tie.In-loop2 Inv-loop2 μ-loop2 Inv-loop μ-loop) → c .before .loop2 .i < 32
-small c = omega (arith, c .loop2-test .taken, known (start (at (c .before))) .sound .at-most)
+small c = omega (arith, c .loop2-test .taken, known (start (at (written (c .before)))) .sound .at-most)
+
+not-true : (b : Bool) → not b ≡ true → b ≡ false
+not-true true e = cc
+not-true false e = refl
 
 happen-until-requires : tie.Need-happen-until-requires Inv-loop2 μ-loop2 Inv-loop μ-loop
 happen-until-requires c κs = known (c .before .before .before) .sound .at-most
@@ -121,25 +157,36 @@ happen-until-requires c κs = known (c .before .before .before) .sound .at-most
 lines-of-requires : tie.Need-lines-of-requires Inv-loop2 μ-loop2 Inv-loop μ-loop
 lines-of-requires c κs = tt
 
+apart-requires : tie.Need-apart-requires Inv-loop2 μ-loop2 Inv-loop μ-loop
+apart-requires c κs = tt
+
 loop-holds : tie.Need-loop-holds Inv-loop2 μ-loop2 Inv-loop μ-loop
 loop-holds c =
-    rw (c .lines-of .ensures) (begins (begun (c .before .before)))
+    let same = ap₂ standing (c .apart .ensures) (c .before .lines-of .ensures) ∙ standing-apart _ in
+    rw same (begins (begun (c .before .before .before)))
 
-shared-slice-read-station-drive :
-    tie.Need-shared-slice-read-station-drive Inv-loop2 μ-loop2 Inv-loop μ-loop
+shared-slice-read-station-drive : tie.Need-shared-slice-read-station-drive Inv-loop2 μ-loop2 Inv-loop μ-loop
 shared-slice-read-station-drive c = search needs
 
 station-drive-requires : tie.Need-station-drive-requires Inv-loop2 μ-loop2 Inv-loop μ-loop
 station-drive-requires c κs = tt
 
+is-silent-requires : tie.Need-is-silent-requires Inv-loop2 μ-loop2 Inv-loop μ-loop
+is-silent-requires c κs = tt
+
+station-requires : tie.Need-station-requires Inv-loop2 μ-loop2 Inv-loop μ-loop
+station-requires c κs = tt
+
 hear-requires : tie.Need-hear-requires Inv-loop2 μ-loop2 Inv-loop μ-loop
-hear-requires c κs = (known (start (c .before .before .before)) .sound .at-most, lines-small (head (c .before .before .before)) (c .before .before .before .loop .inv))
+hear-requires c κs =
+    let here = c .before .before .before .before .before in
+    (known (start here) .sound .at-most, lines-small (head here) (here .loop .inv))
 
 mul-at : tie.Need-mul-at Inv-loop2 μ-loop2 Inv-loop μ-loop
-mul-at c = omega (arith, room (c .before .before .before .before))
+mul-at c = omega (arith, room (c .before .before .before .before .before))
 
 add-end : tie.Need-add-end Inv-loop2 μ-loop2 Inv-loop μ-loop
-add-end c = omega (arith, room (c .before .before .before .before))
+add-end c = omega (arith, room (c .before .before .before .before .before))
 
 sub-put : tie.Need-sub-put Inv-loop2 μ-loop2 Inv-loop μ-loop
 sub-put c = omega arith
@@ -148,28 +195,69 @@ part-put-start : tie.Need-part-put-start Inv-loop2 μ-loop2 Inv-loop μ-loop
 part-put-start c = omega arith
 
 part-put-end : tie.Need-part-put-end Inv-loop2 μ-loop2 Inv-loop μ-loop
-part-put-end c = omega (arith, room (c .before .before .before .before))
+part-put-end c = omega (arith, room (c .before .before .before .before .before))
 
 put-requires : tie.Need-put-requires Inv-loop2 μ-loop2 Inv-loop μ-loop
 put-requires c κs = omega (arith, c .put-arg .given .1)
 
+add-c : tie.Need-add-c Inv-loop2 μ-loop2 Inv-loop μ-loop
+add-c c = omega (arith, room (at c))
+
+is-due-requires : tie.Need-is-due-requires Inv-loop2 μ-loop2 Inv-loop μ-loop
+is-due-requires c κs = tt
+
+moves-alike-requires : tie.Need-moves-alike-requires Inv-loop2 μ-loop2 Inv-loop μ-loop
+moves-alike-requires c κs = tt
+
+follows-requires : tie.Need-follows-requires Inv-loop2 μ-loop2 Inv-loop μ-loop
+follows-requires c κs = tt
+
+loop-less : tie.Need-loop-less Inv-loop2 μ-loop2 Inv-loop μ-loop
+loop-less c = omega (arith, more (c .before .before .before .before))
+
+loop-again : tie.Need-loop-again Inv-loop2 μ-loop2 Inv-loop μ-loop
+loop-again c =
+    let w = c .before .before .before .before in
+    let here = at w in
+    let tests = both _ _ (c .before .if2 .taken) in
+    let alike = sym (c .before .before .moves-alike .ensures) ∙ tests .0 in
+    let due = rw (one w) at (sym (c .before .before .before .is-due .ensures) ∙ not-true _ (tests .1)) in
+    let moved = all-follow (heard w .level) (here .loop .common) alike (here .loop .lines) (here .loop .inv .shows) in
+    rw (one w, c .follows .ensures)
+    (undue _ _ _ _ (start-full (head here)) (here .loop .inv) (known (start here) .rising) (more w) _ (heard w .level) (record-put w) (level-heard w) _ _ moved due)
+
+array-copy-out-stands : tie.Need-array-copy-out-stands Inv-loop2 μ-loop2 Inv-loop μ-loop
+array-copy-out-stands c = omega arith
+
+stands-requires : tie.Need-stands-requires Inv-loop2 μ-loop2 Inv-loop μ-loop
+stands-requires c κs = tt
+
+follows-requires-2 : tie.Need-follows-requires-2 Inv-loop2 μ-loop2 Inv-loop μ-loop
+follows-requires-2 c κs = tt
+
+led-by-requires : tie.Need-led-by-requires Inv-loop2 μ-loop2 Inv-loop μ-loop
+led-by-requires c κs = tt
+
 loop2-holds : tie.Need-loop2-holds Inv-loop2 μ-loop2 Inv-loop μ-loop
-loop2-holds c = (omega arith, λ b phys count-is long shows. shows)
+loop2-holds c = (omega arith, refl, refl, λ b phys count-is long shows. shows)
 
-mul-line : tie.Need-mul-line Inv-loop2 μ-loop2 Inv-loop μ-loop
-mul-line c = omega (arith, small c)
+mul-stands : tie.Need-mul-stands Inv-loop2 μ-loop2 Inv-loop μ-loop
+mul-stands c = omega (arith, small c)
 
-array-copy-out-line : tie.Need-array-copy-out-line Inv-loop2 μ-loop2 Inv-loop μ-loop
-array-copy-out-line c = omega (arith, small c)
+array-copy-out-stands-2 : tie.Need-array-copy-out-stands-2 Inv-loop2 μ-loop2 Inv-loop μ-loop
+array-copy-out-stands-2 c = omega (arith, small c)
+
+stands-requires-2 : tie.Need-stands-requires-2 Inv-loop2 μ-loop2 Inv-loop μ-loop
+stands-requires-2 c κs = tt
 
 acts-requires : tie.Need-acts-requires Inv-loop2 μ-loop2 Inv-loop μ-loop
 acts-requires c κs = tt
 
 mul-onto : tie.Need-mul-onto Inv-loop2 μ-loop2 Inv-loop μ-loop
-mul-onto c = omega (arith, small (c .before .before .before))
+mul-onto c = omega (arith, small (c .before .before .before .before))
 
 element-copy-out-onto : tie.Need-element-copy-out-onto Inv-loop2 μ-loop2 Inv-loop μ-loop
-element-copy-out-onto c = omega (arith, small (c .before .before .before))
+element-copy-out-onto c = omega (arith, small (c .before .before .before .before))
 
 onto-requires : tie.Need-onto-requires Inv-loop2 μ-loop2 Inv-loop μ-loop
 onto-requires c κs = tt
@@ -178,99 +266,100 @@ clock-requires : tie.Need-clock-requires Inv-loop2 μ-loop2 Inv-loop μ-loop
 clock-requires c κs = tt
 
 mul-phy : tie.Need-mul-phy Inv-loop2 μ-loop2 Inv-loop μ-loop
-mul-phy c = omega (arith, small (c .before .before .before .before .before .before))
+mul-phy c = omega (arith, small (c .before .before .before .before .before .before .before))
 
 element-set-from-phy : tie.Need-element-set-from-phy Inv-loop2 μ-loop2 Inv-loop μ-loop
-element-set-from-phy c = omega (arith, small (c .before .before .before .before .before .before))
+element-set-from-phy c = omega (arith, small (c .before .before .before .before .before .before .before))
 
 of-requires : tie.Need-of-requires Inv-loop2 μ-loop2 Inv-loop μ-loop
 of-requires c κs = tt
 
 mul-lines : tie.Need-mul-lines Inv-loop2 μ-loop2 Inv-loop μ-loop
-mul-lines c = omega (arith, small (c .before .before .before .before .before .before .before))
+mul-lines c = omega (arith, small (c .before .before .before .before .before .before .before .before))
 
 array-set-from-lines : tie.Need-array-set-from-lines Inv-loop2 μ-loop2 Inv-loop μ-loop
-array-set-from-lines c = omega (arith, small (c .before .before .before .before .before .before .before))
+array-set-from-lines c = omega (arith, small (c .before .before .before .before .before .before .before .before))
 
-follows-requires : tie.Need-follows-requires Inv-loop2 μ-loop2 Inv-loop μ-loop
-follows-requires c κs = tt
+follows-requires-3 : tie.Need-follows-requires-3 Inv-loop2 μ-loop2 Inv-loop μ-loop
+follows-requires-3 c κs = tt
 
 mul-lines-2 : tie.Need-mul-lines-2 Inv-loop2 μ-loop2 Inv-loop μ-loop
-mul-lines-2 c = omega (arith, small (c .before .before .before .before))
+mul-lines-2 c = omega (arith, small (c .before .before .before .before .before))
 
 array-set-from-lines-2 : tie.Need-array-set-from-lines-2 Inv-loop2 μ-loop2 Inv-loop μ-loop
-array-set-from-lines-2 c = omega (arith, small (c .before .before .before .before))
+array-set-from-lines-2 c = omega (arith, small (c .before .before .before .before .before))
+
+mul-with : tie.Need-mul-with Inv-loop2 μ-loop2 Inv-loop μ-loop
+mul-with c = omega (arith, small (c .before .before .before .before))
+
+array-copy-out-with : tie.Need-array-copy-out-with Inv-loop2 μ-loop2 Inv-loop μ-loop
+array-copy-out-with c = omega (arith, small (c .before .before .before .before))
+
+with-requires : tie.Need-with-requires Inv-loop2 μ-loop2 Inv-loop μ-loop
+with-requires c κs = tt
 
 add-i : tie.Need-add-i Inv-loop2 μ-loop2 Inv-loop μ-loop
-add-i c = omega (arith, small (c .before .before .before))
+add-i c = omega (arith, small (c .before .before .before .before .before .before))
 
 loop2-less : tie.Need-loop2-less Inv-loop2 μ-loop2 Inv-loop μ-loop
 loop2-less c = search needs
 
 loop2-again : tie.Need-loop2-again Inv-loop2 μ-loop2 Inv-loop μ-loop
 loop2-again c =
-    let turn = c .before .before .before .before in
-    let i = turn .loop2 .i in
-    let level = heard turn .level in
-    let below : i < start (at turn) .args .board .count = c .before .before .before .loop2-test .taken in (
+    let joined = c .before .before in
+    let turn = c .before .before .before .before .before .before .before in
+    let loop = turn .loop2 in
+    let i = loop .i in
+    let w = written turn in
+    let common = at w .loop .common in
+    let level = heard w .level in
+    let place : i < length (loop .lines) = omega (arith, reach w, loop .inv .1, c .before .before .before .before .before .before .loop2-test .taken) in
+    let new : (line : Line) × (joined .if3 .lines ≡ set (loop .lines) i line) = ⊎-elim (λ w. (w .4 .result, w .6)) (λ w. (w .1 .result, w .3)) (joined .if3 .came) in (
       omega arith,
+      ap length (new .1) ∙ length-set (loop .lines) i (new .0) ∙ loop .inv .1,
+      gathered-next (loop .gathered) _ i (loop .lines) _ (new .0) place (new .1) (c .with .ensures) (loop .inv .2),
       λ b phys count-is long shows.
-          let so-far = turn .loop2 .inv .1 b phys count-is long shows in
+          let so-far = loop .inv .3 b phys count-is long shows in
           let there : i < b .count = omega arith in
           let qs = replaced (clock level) i phys in
           let same : length qs ≡ b .count = length-replaced (clock level) i phys ∙ long ∙ sym count-is in
           let next : set qs i (clock level (getD qs i nowhere)) ≡ replaced (clock level) (i + 1) phys = replace-next (clock level) i phys qs nowhere _ (omega arith) refl refl in
+          let here = c .before .before .before .before .stands2 .ensures ∙ sym (mixed-at (stands common) i (loop .lines) noLine place) in
           ⊎-elim
-          (λ w. rw (w .5, w .6, ← next) (turn-acts so-far same i there level (w .4 .result) (w .3 .result) (w .3 .ensures ∙ ap (clock level) (w .2 .ensures)) (w .4 .ensures)))
-          (λ w. rw (w .2, w .3, ← next) (turn-follows so-far same i there level (w .1 .result) (sym (c .before .acts .ensures) ∙ w .0 .left) (w .1 .ensures)))
-          (c .if1 .came),
+          (λ w. rw (w .5, w .6, ← next, ← mixed-set (stands common) i (loop .lines) (w .4 .result)) (turn-acts so-far same i there level (w .4 .result) (w .3 .result) (w .3 .ensures ∙ ap (clock level) (w .2 .ensures ∙ ap (λ l. onto l (getD (loop .now .phys) i nowhere)) here)) (w .4 .ensures)))
+          (λ w. rw (w .2, w .3, ← next, ← mixed-set (stands common) i (loop .lines) (w .1 .result)) (turn-follows so-far same i there level (w .1 .result) (ap lineActs (sym here) ∙ sym (c .before .before .before .acts .ensures) ∙ w .0 .left) (w .1 .ensures ∙ ap (lineFollows level) here)))
+          (joined .if3 .came),
     )
 
-add-c : tie.Need-add-c Inv-loop2 μ-loop2 Inv-loop μ-loop
-add-c c = omega (arith, room (at (c .before)))
-
-is-due-requires : tie.Need-is-due-requires Inv-loop2 μ-loop2 Inv-loop μ-loop
-is-due-requires c κs = tt
-
-join-all-requires : tie.Need-join-all-requires Inv-loop2 μ-loop2 Inv-loop μ-loop
-join-all-requires c κs = places (c .before .before .before)
-
 happen-until-requires-2 : tie.Need-happen-until-requires-2 Inv-loop2 μ-loop2 Inv-loop μ-loop
-unfolding joinedBoard
-happen-until-requires-2 c κs =
-    let turn = c .before .before .before .before in
-    let same = ap (λ (b : Board). b .count) (c .join-all .ensures) in
-    omega (arith, places turn)
-
-lines-of-requires-2 : tie.Need-lines-of-requires-2 Inv-loop2 μ-loop2 Inv-loop μ-loop
-lines-of-requires-2 c κs = tt
-
-loop-less : tie.Need-loop-less Inv-loop2 μ-loop2 Inv-loop μ-loop
-loop-less c = omega (arith, more (c .before .before .before .before .before .before .before))
-
-loop-again : tie.Need-loop-again Inv-loop2 μ-loop2 Inv-loop μ-loop
-loop-again c =
-    let after = c .before .before .before .before .before .before in
-    let turn = after .before in
-    let here = at turn in
-    let happened = rw (one turn) at (c .before .before .happen-until2 .ensures) in
-    rw (one turn, c .lines-of2 .ensures)
-    (happening _ _ _ _ (start-full (head here)) (here .loop .inv) (known (start here) .rising) (more turn) _ (heard turn .level) (record-put turn) (level-heard turn) _ _ (sampled after) _ _ (c .before .before .before .join-all .ensures) happened)
+happen-until-requires-2 c κs = places (c .before .before)
 
 loop-less-2 : tie.Need-loop-less-2 Inv-loop2 μ-loop2 Inv-loop μ-loop
-loop-less-2 c = omega (arith, more (c .before .before .before))
+loop-less-2 c = omega (arith, more (written (c .before .before .before .before)))
 
 loop-again-2 : tie.Need-loop-again-2 Inv-loop2 μ-loop2 Inv-loop μ-loop
 loop-again-2 c =
-    let after = c .before .before in
-    let turn = after .before in
-    let here = at turn in
-    let due = rw (one turn) at (sym (c .before .is-due .ensures) ∙ c .if2 .left) in
-    rw (one turn)
-    (undue _ _ _ _ (start-full (head here)) (here .loop .inv) (known (start here) .rising) (more turn) _ (heard turn .level) (record-put turn) (level-heard turn) _ _ (sampled after) due)
+    let after = c .before .before .before in
+    let w = written (after .before) in
+    let here = at w in
+    let happened = rw (one w) at (c .before .happen-until2 .ensures) in
+    rw (one w)
+    (happening _ _ _ _ (start-full (head here)) (here .loop .inv) (known (start here) .rising) (more w) _ (heard w .level) (record-put w) (level-heard w) _ _ (sampled after) _ happened)
 
-join-all-requires-2 : tie.Need-join-all-requires-2 Inv-loop2 μ-loop2 Inv-loop μ-loop
-join-all-requires-2 c κs =
+loop-less-3 : tie.Need-loop-less-3 Inv-loop2 μ-loop2 Inv-loop μ-loop
+loop-less-3 c = omega (arith, more (written (c .before .before)))
+
+loop-again-3 : tie.Need-loop-again-3 Inv-loop2 μ-loop2 Inv-loop μ-loop
+loop-again-3 c =
+    let after = c .before in
+    let w = written (after .before) in
+    let here = at w in
+    let due = rw (one w) at (sym (after .before .before .before .before .before .before .before .before .is-due .ensures) ∙ c .if4 .left) in
+    rw (one w)
+    (undue _ _ _ _ (start-full (head here)) (here .loop .inv) (known (start here) .rising) (more w) _ (heard w .level) (record-put w) (level-heard w) _ _ (sampled after) due)
+
+join-all-requires : tie.Need-join-all-requires Inv-loop2 μ-loop2 Inv-loop μ-loop
+join-all-requires c κs =
     let here = c .before in
     omega (arith, here .loop .inv .shows .counted, start-count (head here), known (start here) .sound .at-most)
 
@@ -281,7 +370,7 @@ returns : tie.Need-returns Inv-loop2 μ-loop2 Inv-loop μ-loop
 returns c =
     let here = c .before .before in
     let all : here .loop .c ≡ length (start here .args .steps .now) = omega (arith, here .loop .inv .gone) in
-    ends (head here) (here .loop .inv) (c .join-all2 .result) all (c .join-all2 .ensures)
+    ends (head here) (here .loop .inv) (c .join-all .result) all (c .join-all .ensures)
 
 pub clock-by-clock-spec : {M : Type 1} → statement M
 clock-by-clock-spec =
@@ -293,9 +382,12 @@ clock-by-clock-spec =
     μ-loop
     happen-until-requires
     lines-of-requires
+    apart-requires
     loop-holds
     shared-slice-read-station-drive
     station-drive-requires
+    is-silent-requires
+    station-requires
     hear-requires
     mul-at
     add-end
@@ -303,9 +395,20 @@ clock-by-clock-spec =
     part-put-start
     part-put-end
     put-requires
+    add-c
+    is-due-requires
+    moves-alike-requires
+    follows-requires
+    loop-less
+    loop-again
+    array-copy-out-stands
+    stands-requires
+    follows-requires-2
+    led-by-requires
     loop2-holds
-    mul-line
-    array-copy-out-line
+    mul-stands
+    array-copy-out-stands-2
+    stands-requires-2
     acts-requires
     mul-onto
     element-copy-out-onto
@@ -316,21 +419,20 @@ clock-by-clock-spec =
     of-requires
     mul-lines
     array-set-from-lines
-    follows-requires
+    follows-requires-3
     mul-lines-2
     array-set-from-lines-2
+    mul-with
+    array-copy-out-with
+    with-requires
     add-i
     loop2-less
     loop2-again
-    add-c
-    is-due-requires
-    join-all-requires
     happen-until-requires-2
-    lines-of-requires-2
-    loop-less
-    loop-again
     loop-less-2
     loop-again-2
-    join-all-requires-2
+    loop-less-3
+    loop-again-3
+    join-all-requires
     same-length
     returns)

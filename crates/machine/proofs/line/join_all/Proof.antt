@@ -1,30 +1,36 @@
 -- Place by place: after i turns the first i PHYs have their lines again.
 use Prim.Native.Nat.{_≤_, _-_}
-use mathlib.Core.Path.{_≡_, refl}
+use mathlib.Core.Path.{_≡_, refl, sym, ap, _∙_}
 use native.Mathlib.Omega.{arith}
-use lib.ListN.{length, length-map}
+use lib.ListN.{length, getD, length-map}
 use borrow.Author.Needs.{needs}
 use Rattle.verdict.specs.Output.{tabulate}
 use Rattle.verdict.proofs.Outputs.{filled}
-use Rattle.machine.proofs.Turns.{rejoined, join-next, join-end}
+use Rattle.phy.specs.Sound.{nowhere}
+use Rattle.machine.specs.Lines.{noLine, onto}
+use Rattle.machine.specs.Common.{stands, standing}
+use Rattle.machine.proofs.Turns.{map-at, rejoined, join-next, join-end}
 use Rattle.machine.proofs.line.join_all.Statement.{statement}
 use Rattle.machine.proofs.line.join_all.Tie as tie
 
 abbrev Inv-loop : tie.InvT-loop
-Inv-loop board₀ lines count i₀ board i = (i ≤ count) × (board .count ≡ board₀ .count) × (board .phys ≡ filled (rejoined lines board₀) (board₀ .phys) i)
+Inv-loop common board₀ lines count i₀ board i = (i ≤ count) × (board .count ≡ board₀ .count) × (board .phys ≡ filled (rejoined (standing common lines) board₀) (board₀ .phys) i)
 
 abbrev μ-loop : tie.MeasureT-loop
-μ-loop board₀ lines count i₀ board i = count - i
+μ-loop common board₀ lines count i₀ board i = count - i
 
 loop-holds : tie.Need-loop-holds Inv-loop μ-loop
 unfolding tabulate
 loop-holds c = (search needs, refl, refl)
 
-mul-line : tie.Need-mul-line Inv-loop μ-loop
-mul-line c = search needs
+mul-stands : tie.Need-mul-stands Inv-loop μ-loop
+mul-stands c = search needs
 
-array-copy-out-line : tie.Need-array-copy-out-line Inv-loop μ-loop
-array-copy-out-line c = search needs
+array-copy-out-stands : tie.Need-array-copy-out-stands Inv-loop μ-loop
+array-copy-out-stands c = search needs
+
+stands-requires : tie.Need-stands-requires Inv-loop μ-loop
+stands-requires c κs = search needs
 
 mul-onto : tie.Need-mul-onto Inv-loop μ-loop
 mul-onto c = search needs
@@ -49,17 +55,20 @@ loop-less c = search needs
 
 loop-again : tie.Need-loop-again Inv-loop μ-loop
 loop-again c =
-    let start = c .before .before .before .before .before in
-    let loop = c .before .before .before .before .loop in
+    let start = c .before .before .before .before .before .before in
+    let loop = c .before .before .before .before .before .loop in
     let places : length (start .args .t1 .phys) ≡ 32 = simp length-map at (start .good .0 .1 .1 .1 .0 .1 .0 .1) in
-    let turn = join-next (start .args .t2) (start .args .t1) (loop .board .phys) (loop .i) _ (omega arith) (loop .inv .2) (c .onto .ensures) in
+    let common = start .args .common in
+    let long : length (start .args .t2) ≡ 32 = search needs in
+    let here = c .before .before .stands .ensures ∙ sym (map-at (stands common) (start .args .t2) (loop .i) noLine noLine (omega arith)) in
+    let turn = join-next (standing common (start .args .t2)) (start .args .t1) (loop .board .phys) (loop .i) _ (omega arith) (loop .inv .2) (c .onto .ensures ∙ ap (λ line. onto line (getD (loop .board .phys) (loop .i) nowhere)) here) in
     (search needs, loop .inv .1, turn)
 
 returns : tie.Need-returns Inv-loop μ-loop
 returns c =
     let start = c .before .before in
     let loop = c .before .loop in
-    join-end (start .args .t2) (start .args .t1) (loop .board) (loop .i) (omega arith) (loop .inv .1) (loop .inv .2)
+    join-end (standing (start .args .common) (start .args .t2)) (start .args .t1) (loop .board) (loop .i) (omega arith) (loop .inv .1) (loop .inv .2)
 
 pub join-all-spec : {M : Type 1} → statement M
 join-all-spec =
@@ -68,8 +77,9 @@ join-all-spec =
     Inv-loop
     μ-loop
     loop-holds
-    mul-line
-    array-copy-out-line
+    mul-stands
+    array-copy-out-stands
+    stands-requires
     mul-onto
     element-copy-out-onto
     onto-requires

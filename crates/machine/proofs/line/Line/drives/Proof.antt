@@ -1,86 +1,22 @@
--- The bits seen say whether an answer is on, the header whose it is.
-use mathlib.Core.Path.{sym, ap, _∙_}
-use Rattle.machine.specs.Lines.{lineAnswers}
-use Rattle.machine.proofs.Lines.{drives-hunting, drives-inside, drives-early, drives-late}
+-- What drives is the PHY itself, with the line put onto one that has no words.
+use mathlib.Core.Path.{ap, _∙_}
+use Rattle.phy.specs.Fields.{withLine}
+use Rattle.phy.specs.Clock.{drives}
 use borrow.Author.Needs.{needs}
 use Rattle.machine.proofs.line.Line.drives.Statement.{statement}
 use Rattle.machine.proofs.line.Line.drives.Tie as tie
 
-enum-known-follower : tie.Need-enum-known-follower
-enum-known-follower c = search needs
+fresh-requires : tie.Need-fresh-requires
+fresh-requires c κs = search needs
 
-enum-told : tie.Need-enum-told
-enum-told c = search needs
+onto-requires : tie.Need-onto-requires
+onto-requires c κs = search needs
+
+drives-requires : tie.Need-drives-requires
+drives-requires c κs = search needs
 
 returns : tie.Need-returns
-returns c = sym (drives-hunting (c .before .before .args .self) _ (c .enum-told .given .1))
-
-returns-2 : tie.Need-returns-2
-returns-2 c =
-    let self = c .before .before .before .before .args .self in
-    let now = c .before .before .follower .given in
-    let seen = now .0 .0 in
-    let bits = now .0 .1 .0 in
-    sym (drives-early self seen bits (now .1) (c .if1 .taken))
-
-returns-3 : tie.Need-returns-3
-returns-3 c =
-    let self = c .before .before .before .before .before .args .self in
-    let now = c .before .before .before .follower .given in
-    let seen = now .0 .0 in
-    let bits = now .0 .1 .0 in
-    sym (drives-late self seen bits (now .1) (c .if2 .taken))
-
-sub-of : tie.Need-sub-of
-sub-of c = search needs
-
-cast-of : tie.Need-cast-of
-cast-of c = search needs
-
-shr-of : tie.Need-shr-of
-shr-of c = search needs
-
-of-requires : tie.Need-of-requires
-of-requires c κs = search needs
-
-answers-requires : tie.Need-answers-requires
-answers-requires c κs = search needs
-
-answer-bit-requires : tie.Need-answer-bit-requires
-answer-bit-requires c κs = search needs
-
-returns-4 : tie.Need-returns-4
-returns-4 c =
-    let self = c .before .before .before .before .before .before .before .before .before .args .self in
-    let now = c .before .before .before .before .before .before .before .follower .given in
-    let seen = now .0 .0 in
-    let bits = now .0 .1 .0 in
-    let own = sym (c .before .before .answers .ensures ∙ ap (λ h. lineAnswers h self) (c .before .before .before .of .ensures)) ∙ c .before .if3 .taken in
-    c .answer-bit .ensures ∙ sym (drives-inside self seen bits (now .1) ∙ rw own)
-
-returns-5 : tie.Need-returns-5
-returns-5 c =
-    let self = c .before .before .before .before .before .before .before .before .args .self in
-    let now = c .before .before .before .before .before .before .follower .given in
-    let seen = now .0 .0 in
-    let bits = now .0 .1 .0 in
-    let other = sym (c .before .answers .ensures ∙ ap (λ h. lineAnswers h self) (c .before .before .of .ensures)) ∙ c .if3 .left in
-    sym (drives-inside self seen bits (now .1) ∙ rw other)
+returns c = c .drives .ensures ∙ ap drives (c .before .onto .ensures ∙ ap (withLine _ _) (c .before .before .fresh .ensures))
 
 pub drives-spec : {M : Type 1} → statement M
-drives-spec =
-    tie.close
-    (tie.spec
-    enum-known-follower
-    enum-told
-    returns
-    returns-2
-    returns-3
-    sub-of
-    cast-of
-    shr-of
-    of-requires
-    answers-requires
-    answer-bit-requires
-    returns-4
-    returns-5)
+drives-spec = tie.close (tie.spec fresh-requires onto-requires drives-requires returns)

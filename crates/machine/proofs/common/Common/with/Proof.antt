@@ -1,0 +1,16 @@
+-- Its follower is held against the common one.
+use Rattle.machine.specs.Common.{joinedBy}
+use borrow.Author.Needs.{needs}
+use Rattle.machine.proofs.common.Common.with.Statement.{statement}
+use Rattle.machine.proofs.common.Common.with.Tie as tie
+use Rattle.machine.proofs.common.same_follower.Reads as same-follower-reads
+
+same-follower-requires : tie.Need-same-follower-requires
+same-follower-requires c κs = search needs
+
+returns : tie.Need-returns
+unfolding joinedBy
+returns c = rw (c .before .same-follower .ensures)
+
+pub with-spec : {M : Type 1} → statement M
+with-spec = tie.close (tie.spec same-follower-requires returns)

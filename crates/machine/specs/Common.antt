@@ -1,0 +1,68 @@
+-- What all lines have in common: in most clocks the followers of all PHYs are the same, and then one follower tells for all lines.
+use Prim.Native.Nat.{ℕ, _+_, _-_}
+use mathlib.Core.Bool.{Bool, true, false, not, _&&_, cond}
+use mathlib.Core.List.{List, map}
+use lib.Dec.{eqb, ltb}
+use Rattle.frame.specs.Frame.{headerBits, frameBits}
+use Rattle.wire.specs.declared.Follower.{Follower}
+use Rattle.wire.specs.declared.Follower.the-variants.{Hunting, Inside}
+use Rattle.wire.specs.Follower.{follow}
+use Rattle.machine.specs.declared.line.Line.{Line}
+use Rattle.machine.specs.declared.common.Common.{Common}
+
+-- nothing is common
+abbrev pub apart : Common
+apart = record { alike = false; follower = Hunting 0 }
+
+-- one line's follower, before it is held against others
+abbrev pub ledBy : Line → Common
+ledBy line = record { alike = true; follower = line .follower }
+
+abbrev pub sameFollower : Follower → Follower → Bool
+sameFollower (Hunting ones) (Hunting others) = eqb ones others
+sameFollower (Hunting ones) (Inside seen bits) = false
+sameFollower (Inside seen bits) (Hunting ones) = false
+sameFollower (Inside seen bits) (Inside seen′ bits′) = eqb seen seen′ && eqb bits bits′
+
+-- one line more: it has the same follower, or the lines are not alike
+unfoldable pub joinedBy : Line → Common → Common
+joinedBy line common =
+    record { alike = common .alike && sameFollower (common .follower) (line .follower); follower = common .follower }
+
+-- a line with another follower
+abbrev pub lineWith : Follower → Line → Line
+lineWith follower line =
+    record {
+      address = line .address;
+      implemented = line .implemented;
+      enough = line .enough;
+      follower = follower;
+      captured = line .captured;
+    }
+
+-- a line as it stands, and all lines
+unfoldable pub stands : Common → Line → Line
+stands common line = cond (common .alike) (lineWith (common .follower) line) line
+
+abbrev pub standing : Common → List Line → List Line
+standing common lines = map (stands common) lines
+
+-- with this follower nothing is driven: an answer starts with 15 bits seen
+abbrev pub silentIn : Follower → Bool
+silentIn (Hunting ones) = true
+silentIn (Inside seen bits) = ltb seen (headerBits + 1)
+
+abbrev pub isSilent : Common → Bool
+isSilent common = common .alike && silentIn (common .follower)
+
+-- with this follower it makes no difference how many ones are enough, and no PHY acts: no frame starts, and no header and no frame ends
+abbrev pub movesAlikeIn : Bool → Follower → Bool
+movesAlikeIn level (Hunting ones) = level
+movesAlikeIn level (Inside seen bits) = not (eqb seen (headerBits - 1)) && not (eqb seen (frameBits - 1))
+
+abbrev pub movesAlike : Bool → Common → Bool
+movesAlike level common = common .alike && movesAlikeIn level (common .follower)
+
+-- what is common after such a clock
+unfoldable pub commonFollows : Bool → Common → Common
+commonFollows level common = record { alike = common .alike; follower = follow 32 level (common .follower) }
