@@ -16,4 +16,5 @@ pub mod Stands
 pub mod Accepts
 pub mod Begins
 pub mod RunLaws
+pub mod Parts
 pub mod SoundBoards
