@@ -16,5 +16,6 @@ pub mod Stands
 pub mod Accepts
 pub mod Begins
 pub mod RunLaws
-pub mod Parts
+pub mod EventParts
+pub mod RunParts
 pub mod SoundBoards

@@ -1,35 +1,20 @@
--- A run of steps a ++ b is a run of a with the events up to its last clock, and then a fresh run of b, from the board that the first left, with the later events: no later event is at clock 0, and what a clock's number decides is only which events come after it.
+-- An event file taken apart at clock n: up to n the earlier records do what the file does; of the later ones, whose clocks count from n, none is at clock 0, and after clock c they do what the file does after clock n + c.
 use Prim.Native.Nat.{ℕ, zero, suc, _+_, _-_, _*_, _/_, _%_, _≤_, _<_}
 use mathlib.Core.Path.{_≡_, refl, sym, ap, ap₂, _∙_}
 use mathlib.Core.Bool.{Bool, true, false, _&&_, cond}
-use mathlib.Core.List.{List, [], _∷_, _++_, map}
+use mathlib.Core.List.{List, [], _∷_, _++_}
 use native.Mathlib.Omega.{arith}
 use native.Mathlib.Nat.{div-add-mod'}
 use native.Mathlib.Decide.{ℕ-discrete}
 use lib.Dec.{eqb, leb, ltb}
-use lib.ListN.{length, length-map}
 use borrow.Author.Tests.{eq-eqb, ne-eqb, leb-false, ltb-true, ltb-false}
 use Rattle.verdict.specs.File.{byteAt, records}
-use Rattle.verdict.specs.Output.{join}
-use Rattle.verdict.proofs.Elements.{all-of, map-same, map-stays}
-use Rattle.wire.specs.Wire.{stationDrive, runs, driven}
-use Rattle.wire.proofs.Runs.{HappensAlike, runs-alike, driven-alike}
 use Rattle.phy.specs.declared.Phy.{Phy}
 use Rattle.phy.specs.Events.{event}
-use Rattle.phy.specs.Clock.{drives, clock}
-use Rattle.board.specs.declared.Board.{Board}
 use Rattle.board.specs.Events.{eventRecord, eventClock, eventAddress, eventCode}
-use Rattle.machine.specs.Outcome.{physOf, withPhys}
 use Rattle.machine.specs.Events.{happensFrom, happens}
 use Rattle.machine.specs.Parts.{eventBytes, picked, eventsUpTo, eventsPast}
-use Rattle.machine.specs.Log.{clockRecord}
-use Rattle.machine.specs.Run.{addressesOf, partyWith, stationDrives, atStart, physAfterRun, logOfRun}
-use Rattle.machine.proofs.Places.{phys-of-with}
 use Rattle.machine.proofs.HappensEffect.{oneEvent}
-use Rattle.machine.proofs.Lockstep.{clock-address, happens-address}
-use Rattle.machine.proofs.EachPlace.{Each, Leaves, leaves-closed, each-leaves, each-length}
-use Rattle.machine.proofs.Changes.{run-changes}
-use Rattle.machine.proofs.RunLaws.{run-append, log-append}
 
 -- A file with one more record in front: that record, then the file
 module _ (high low address code : ℕ) (file : List ℕ) where
@@ -134,83 +119,3 @@ taken-apart n events =
       start = picked-none (λ number. ltb n number) n events 0 (none-at-start n) all 0;
       after = λ c h phy. sym (picked-as (λ number. ltb n number) n events c (n + c) (λ number. past n c number h) all 0 phy);
     }
-
--- Steps a, then steps b; the events taken apart at the last clock of a
-module _ (board : Board) (a b events : List ℕ) {early late : List ℕ} (apart : TakesApart (length a) events early late) where
-  abbrev between : Board
-  between = withPhys board (physAfterRun board a early)
-
-  clocks-of : (steps : List ℕ) → length (stationDrives steps) ≡ length steps
-  clocks-of steps = length-map steps stationDrive
-
-  first-alike : HappensAlike (happens events) (happens early) 0 0 (length (stationDrives a))
-  first-alike =
-      record {
-        same = λ i j past within shift p.
-            let clock-is : i ≡ j = omega arith in
-            apart .before i (omega (arith, clocks-of a)) p ∙ ap (λ c. happens early c p) clock-is;
-      }
-
-  then-alike : HappensAlike (happens events) (happens late) (length a) 0 (length (stationDrives b))
-  then-alike =
-      record {
-        same = λ i j past within shift p.
-            let clock-is : i ≡ length a + j = omega arith in
-            ap (λ c. happens events c p) clock-is ∙ apart .after j (omega arith) p;
-      }
-
-  -- the first part
-  same-start : atStart board events ≡ atStart board early
-  same-start = map-same (happens events 0) (happens early 0) (physOf board) (all-of _ (physOf board) (apart .before 0 (omega arith)))
-
-  first-phys : physAfterRun board a events ≡ physAfterRun board a early
-  first-phys =
-      ap (runs (partyWith events) (stationDrives a) 0) same-start
-      ∙ runs-alike (happens events) (happens early) drives clock (stationDrives a) 0 0 (atStart board early) first-alike
-
-  first-log : logOfRun board a events ≡ logOfRun board a early
-  first-log =
-      ap (λ clocks. join (map (clockRecord (addressesOf (physOf board))) clocks))
-      (ap (driven (partyWith events) (stationDrives a) 0) same-start
-      ∙ driven-alike (happens events) (happens early) drives clock (stationDrives a) 0 0 (atStart board early) first-alike)
-
-  -- between the two the PHYs stand where the first part left them, with their addresses
-  first-keeps : Each (Leaves (λ (phy : Phy). phy .address)) (physOf board) (physAfterRun board a early)
-  first-keeps = run-changes (leaves-closed (λ (phy : Phy). phy .address)) early (happens-address early) clock-address board a
-
-  phys-between : physOf between ≡ physAfterRun board a early
-  phys-between = phys-of-with board (physAfterRun board a early) (each-length first-keeps)
-
-  same-addresses : addressesOf (physOf between) ≡ addressesOf (physOf board)
-  same-addresses = ap addressesOf phys-between ∙ each-leaves (λ (phy : Phy). phy .address) first-keeps
-
-  start-between : physAfterRun board a events ≡ atStart between late
-  start-between = first-phys ∙ sym (map-stays (happens late 0) (apart .start) (physOf between) ∙ phys-between)
-
-  pub run-apart : physAfterRun board (a ++ b) events ≡ physAfterRun between b late
-  run-apart =
-      run-append board events a b
-      ∙ ap (runs (partyWith events) (stationDrives b) (length a)) start-between
-      ∙ runs-alike (happens events) (happens late) drives clock (stationDrives b) (length a) 0 (atStart between late) then-alike
-
-  pub log-apart : logOfRun board (a ++ b) events ≡ logOfRun board a early ++ logOfRun between b late
-  log-apart =
-      let rest : driven (partyWith events) (stationDrives b) (length a) (physAfterRun board a events) ≡ driven (partyWith late) (stationDrives b) 0 (atStart between late) =
-      ap (driven (partyWith events) (stationDrives b) (length a)) start-between
-      ∙ driven-alike (happens events) (happens late) drives clock (stationDrives b) (length a) 0 (atStart between late) then-alike in
-      log-append board events a b
-      ∙ ap₂ (λ (xs ys : List ℕ). xs ++ ys) first-log (ap₂ (λ who clocks. join (map (clockRecord who) clocks)) (sym same-addresses) rest)
-
--- a run in two parts, the events split by their clocks
-module _ (board : Board) (a b events : List ℕ) where
-  abbrev early : List ℕ
-  early = eventsUpTo (length a) events
-
-  abbrev late : List ℕ
-  late = eventsPast (length a) events
-
-  pub run-in-parts : physAfterRun board (a ++ b) events ≡ physAfterRun (withPhys board (physAfterRun board a early)) b late
-  run-in-parts = run-apart board a b events (taken-apart (length a) events)
-
-  pub log-in-parts : logOfRun board (a ++ b) events ≡ logOfRun board a early ++ logOfRun (withPhys board (physAfterRun board a early)) b late
-  log-in-parts = log-apart board a b events (taken-apart (length a) events)
