@@ -62,7 +62,7 @@ ends-length [] board = length-map (physOf board) (λ phy. phy .follower)
 ends-length (t ∷ ts) board = length-map (physOf board) (λ phy. Hunting 1)
 
 -- a board of n PHYs that is ready for exchanges: sound, every field within its type, and every PHY hunting
-pub record Ready (n : ℕ) (board : Board) : Type 0 where
+pub record ReadyBoard (n : ℕ) (board : Board) : Type 0 where
   pub sound : SoundBoard n board
   pub hunt : All Hunts (physOf board)
 
@@ -130,7 +130,7 @@ module _ {n : ℕ} {board : Board} (list events : List ℕ) {out : List ℕ} {r 
   exchange-sound is exchanged = handed-back-sound is (run-keeps is events (translation list)) exchanged
 
   -- so after an exchange the board is ready for another, which again answers as `plain` does
-  pub exchange-ready : ((i : ℕ) → byteAt list i < 256) → Ready n board → Exchanged board list events out r out′ → Ready n (r .board)
+  pub exchange-ready : ((i : ℕ) → byteAt list i < 256) → ReadyBoard n board → Exchanged board list events out r out′ → ReadyBoard n (r .board)
   exchange-ready bytes ready exchanged =
       record {
         sound = exchange-sound (ready .sound) exchanged;
@@ -148,7 +148,7 @@ loaded-hunts file = go (boardVerdict file)
         (all-tabulate Hunts n (phyAt file) (λ k within. record { ones = 0; hunting = refl }))
     go (Refused c k) = tt
 
-pub loaded-ready : (file : List ℕ) → TypedBoard (loaded file .board) → Ready (loaded file .board .count) (loaded file .board)
+pub loaded-ready : (file : List ℕ) → TypedBoard (loaded file .board) → ReadyBoard (loaded file .board .count) (loaded file .board)
 loaded-ready file typed = record { sound = record { typed = typed; passes = load-sound file }; hunt = loaded-hunts file }
 
 module _ (file list events out : List ℕ) (typed : TypedBoard (loaded file .board)) (bytes : (i : ℕ) → byteAt list i < 256) where
