@@ -9,6 +9,7 @@ use Rattle.verdict.specs.declared.Verdict.the-variants.{Done, Refused}
 use Rattle.verdict.specs.File.{byteAt}
 use Rattle.verdict.specs.Lists.{All}
 use Rattle.verdict.specs.Output.{tabulate, join, written, outputAfter}
+use Rattle.verdict.proofs.Checks.{done-by}
 use Rattle.verdict.proofs.Elements.{all-map, all-map-of}
 use Rattle.verdict.proofs.Lists.{length-tabulate, all-tabulate}
 use Rattle.frame.specs.declared.list.Transaction.{Transaction}
@@ -32,7 +33,6 @@ use Rattle.machine.proofs.SoundBoards.{SoundBoard, handed-back-sound, run-keeps
 use Rattle.agreement.specs.Demand3.{Hunts, Demand3, registersOf, linksOf, followersOf, endsHunting}
 use Rattle.agreement.specs.Exchange.{answersOfExchange, physAfterExchange, Exchanged, SameAsPlain}
 use Rattle.agreement.proofs.Demand3.{demand-3}
-use Rattle.agreement.proofs.ExchangeCalls.{done-by}
 
 -- two results that meet the promise of `exchange` are equal, as are the answers
 pub exchange-unique : (board : Board) (list events out : List ℕ) {r s : Outcome} {out₁ out₂ : List ℕ} → Exchanged board list events out r out₁ → Exchanged board list events out s out₂ → (r ≡ s) × (out₁ ≡ out₂)
