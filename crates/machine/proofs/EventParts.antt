@@ -9,6 +9,8 @@ use native.Mathlib.Decide.{ℕ-discrete}
 use lib.Dec.{eqb, leb, ltb}
 use borrow.Author.Tests.{eq-eqb, ne-eqb, leb-false, ltb-true, ltb-false}
 use Rattle.verdict.specs.File.{byteAt, records}
+use Rattle.verdict.specs.Lists.{All}
+use Rattle.verdict.proofs.Elements.{all-append}
 use Rattle.phy.specs.declared.Phy.{Phy}
 use Rattle.phy.specs.Events.{event}
 use Rattle.board.specs.Events.{eventRecord, eventClock, eventAddress, eventCode}
@@ -119,3 +121,25 @@ taken-apart n events =
       start = picked-none (λ number. ltb n number) n events 0 (none-at-start n) all 0;
       after = λ c h phy. sym (picked-as (λ number. ltb n number) n events c (n + c) (λ number. past n c number h) all 0 phy);
     }
+
+-- both are files of bytes if the whole is
+module _ (events : List ℕ) (bytes : (i : ℕ) → byteAt events i < 256) where
+  picked-bytes : (test : ℕ → Bool) (n left k : ℕ) → All (λ byte. byte < 256) (picked test n events k left)
+  unfolding picked
+  picked-bytes test n zero k = tt
+  picked-bytes test n (suc left) k = all-append (λ byte. byte < 256) (cond (test (eventClock events k)) one []) (picked test n events (suc k) left) (go (test (eventClock events k))) (picked-bytes test n left (suc k))
+    where
+      one : List ℕ
+      one = eventBytes (eventClock events k - n) (eventAddress events k) (eventCode events k)
+
+      go : (b : Bool) → All (λ byte. byte < 256) (cond b one [])
+      go true =
+          let high = bytes (k * eventRecord) in
+          let low = bytes (k * eventRecord + 1) in
+          (omega arith, (omega arith, (bytes (k * eventRecord + 2), (bytes (k * eventRecord + 3), tt))))
+      go false = tt
+
+  pub parts-bytes : (n : ℕ) → All (λ byte. byte < 256) (eventsUpTo n events) × All (λ byte. byte < 256) (eventsPast n events)
+  parts-bytes n =
+      let all = records eventRecord events in
+      (picked-bytes (λ clock. leb clock n) 0 all 0, picked-bytes (λ clock. ltb n clock) n all 0)

@@ -18,4 +18,5 @@ pub mod Begins
 pub mod RunLaws
 pub mod EventParts
 pub mod RunParts
+pub mod PartsAccepted
 pub mod SoundBoards

@@ -28,7 +28,7 @@ use Rattle.machine.proofs.RunLaws.{log-length, run-append, log-append}
 use Rattle.machine.proofs.EventParts.{TakesApart, taken-apart}
 
 -- a run keeps addresses, and how many PHYs there are
-run-keeps-addresses : (board : Board) (steps events : List ℕ) → Each (Leaves (λ (phy : Phy). phy .address)) (physOf board) (physAfterRun board steps events)
+pub run-keeps-addresses : (board : Board) (steps events : List ℕ) → Each (Leaves (λ (phy : Phy). phy .address)) (physOf board) (physAfterRun board steps events)
 run-keeps-addresses board steps events =
     run-changes (leaves-closed (λ (phy : Phy). phy .address)) events (happens-address events) clock-address board steps
 
@@ -100,7 +100,7 @@ module _ (steps events : List ℕ) {board : Board} {out : List ℕ} {r : Outcome
   answer : running board steps events out ≡ Done n
   answer = sym (ran .writes .verdict) ∙ done
 
-  board-left : r .board ≡ withPhys board (physAfterRun board steps events)
+  pub board-left : r .board ≡ withPhys board (physAfterRun board steps events)
   board-left = ran .board ∙ ap (λ v. boardAfter v board (physAfterRun board steps events)) answer
 
   log-left : take (length steps * logRecord) out′ ≡ logOfRun board steps events
@@ -132,7 +132,7 @@ module _ (board : Board) (a b events : List ℕ) where
     same-board =
         let left = physAfterRun board a early in
         board-left (a ++ b) events runs-whole done
-        ∙ ap (withPhys board) (run-in-parts)
+        ∙ ap (withPhys board) run-in-parts
         ∙ sym (with-with board left (each-length (run-keeps-addresses board a early)) (physAfterRun (withPhys board left) b late))
         ∙ ap (λ between. withPhys between (physAfterRun between b late)) (sym (board-left a early runs-first done₁))
         ∙ sym (board-left b late runs-second done₂)

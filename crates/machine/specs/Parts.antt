@@ -17,7 +17,7 @@ picked test n events k (suc left) =
     cond (test (eventClock events k)) (eventBytes (eventClock events k - n) (eventAddress events k) (eventCode events k)) []
     ++ picked test n events (suc k) left
 
--- the records with clock at most n, as they are
+-- the records with clock at most n, with nothing taken off
 abbrev pub eventsUpTo : ℕ → List ℕ → List ℕ
 eventsUpTo n events = picked (λ clock. leb clock n) 0 events 0 (records eventRecord events)
 
