@@ -13,7 +13,7 @@ use Rattle.verdict.specs.Refusal.{andThen}
 use Rattle.verdict.specs.Bits.{bits}
 use Rattle.verdict.specs.Lists.{All}
 use Rattle.verdict.specs.Output.{join, written, roomFor, Writes}
-use Rattle.verdict.proofs.Checks.{all-pass-done}
+use Rattle.verdict.proofs.Checks.{done-by}
 use Rattle.verdict.proofs.Elements.{all-append, all-map-of, all-or}
 use Rattle.frame.specs.declared.list.Transaction.{Transaction}
 use Rattle.frame.specs.Frame.{preamble, clocks, logRecord, logPartBytes}
@@ -29,6 +29,7 @@ use Rattle.machine.specs.declared.Outcome.{Outcome}
 use Rattle.machine.specs.Outcome.{outcomeOf, withPhys}
 use Rattle.machine.specs.Run.{mostSteps, stepFault, stepsVerdict, running, logOfRun, Ran}
 use Rattle.machine.specs.Plain.{planning}
+use Rattle.machine.proofs.Accepts.{steps-done, room-done}
 use Rattle.machine.proofs.RunLaws.{log-length}
 use Rattle.agreement.specs.Exchange.{answersOfExchange, physAfterExchange, Exchanged, Ready}
 
@@ -70,10 +71,6 @@ step-of-four list k =
     let small = all-or OneOfFour (translation list) k 0 (omega arith) (all-join OneOfFour (map stepsOf (transactions list)) (all-map-of (All OneOfFour) stepsOf (transactions list) four-steps)) in
     rw (le-ltb 3 _ small)
 
--- a room that is large enough
-room-enough : (out : List ℕ) (n : ℕ) → n ≤ length out → roomFor out n ≡ Done n
-room-enough out n fits = rw (le-ltb (length out) n fits)
-
 -- a result of m bytes at the start of an output
 pub record Starts (out result : List ℕ) (m : ℕ) : Type 0 where
   pub within : m ≤ length out
@@ -88,16 +85,6 @@ starts result room out m wrote long =
       size = sym (ap length bytes ∙ long);
       bytes = bytes;
     }
-
--- a chain of checks that is done passed its first, and the rest is done too
-pub record Passes (first : Verdict) (next : ℕ → Verdict) (m : ℕ) : Type 0 where
-  pub count : ℕ
-  pub passes : first ≡ Done count
-  pub rest : next count ≡ Done m
-
-pub done-by : (first : Verdict) (next : ℕ → Verdict) {m : ℕ} → andThen first next ≡ Done m → Passes first next m
-done-by (Done n) next e = record { count = n; passes = refl; rest = e }
-done-by (Refused c k) next e = absurd (let z : _≡_ {A = ℕ} 0 1 = cc in omega arith)
 
 done-size : {n m : ℕ} → Done n ≡ Done m → n ≡ m
 done-size e = cc
@@ -120,14 +107,13 @@ module _ (list : List ℕ) (n : ℕ) (accepted : listVerdict list ≡ Done n) wh
 
   -- its steps pass
   pub steps-accepted : stepsVerdict (translation list) ≡ Done (n * clocks)
-  unfolding stepsVerdict
   steps-accepted =
-      rw (steps-counted, le-ltb mostSteps (n * clocks) (omega (arith, few)))
-      (all-pass-done (stepFault (translation list)) (Done (n * clocks)) 0 (n * clocks) (λ k h l. step-of-four list k))
+      steps-done (translation list) (omega (arith, few, steps-counted)) (λ k h. step-of-four list k)
+      ∙ ap Done steps-counted
 
   -- its run is refused for the board and the events alone
   running-list : (board : Board) (events log : List ℕ) → length log ≡ mostSteps * logRecord → running board (translation list) events log ≡ andThen (checked board) (λ phys. andThen (eventsVerdict board events (n * clocks)) (λ happenings. Done (n * clocks * logRecord)))
-  running-list board events log room = rw (steps-accepted, room-enough log (n * clocks * logRecord) (omega (arith, few)))
+  running-list board events log room = rw (steps-accepted, room-done log (n * clocks * logRecord) (omega (arith, few)))
 
   -- its log is refused for room alone
   decoding-log : (board : Board) (events out : List ℕ) → decoding list (logOfRun board (translation list) events) out ≡ roomFor out (n * answerRecord)
@@ -138,7 +124,7 @@ translating-list : (list out : List ℕ) → length out ≡ mostSteps → transl
 translating-list list out room = go (listVerdict list) refl
   where
     go : (v : Verdict) → listVerdict list ≡ v → andThen v (λ n. roomFor out (n * clocks)) ≡ andThen v (λ n. Done (n * clocks))
-    go (Done n) e = room-enough out (n * clocks) (omega (arith, few list n e))
+    go (Done n) e = room-done out (n * clocks) (omega (arith, few list n e))
     go (Refused c k) e = refl
 
 -- a translated list: what its steps are

@@ -9,10 +9,12 @@ use Rattle.verdict.specs.declared.Verdict.the-variants.{Done, Refused}
 use Rattle.verdict.specs.File.{byteAt}
 use Rattle.verdict.specs.Lists.{All}
 use Rattle.verdict.specs.Output.{tabulate, join, written, outputAfter}
+use Rattle.verdict.proofs.Checks.{done-by}
 use Rattle.verdict.proofs.Elements.{all-map, all-map-of}
 use Rattle.verdict.proofs.Lists.{length-tabulate, all-tabulate}
 use Rattle.frame.specs.declared.list.Transaction.{Transaction}
 use Rattle.frame.specs.List.{listVerdict, transactions}
+use Rattle.frame.specs.Steps.{translation}
 use Rattle.frame.specs.Answers.{answerBytes}
 use Rattle.wire.specs.declared.Follower.{Follower}
 use Rattle.wire.specs.declared.Follower.the-variants.{Hunting}
@@ -21,15 +23,16 @@ use Rattle.board.specs.declared.Board.{Board}
 use Rattle.board.specs.Load.{phyAt, boardVerdict, boardOf, loadedBy, loaded}
 use Rattle.board.specs.Check.{checked}
 use Rattle.board.specs.Typed.{TypedBoard}
+use Rattle.board.proofs.LoadSound.{load-sound}
 use Rattle.machine.specs.declared.Outcome.{Outcome}
 use Rattle.machine.specs.Outcome.{outcomeOf, physOf, withPhys, boardAfter}
 use Rattle.machine.specs.Plain.{planning, answersOfPlain, physAfterPlain, Planned}
 use Rattle.machine.proofs.Laws.{hands-back-unique}
 use Rattle.machine.proofs.Places.{phys-of-with}
+use Rattle.machine.proofs.SoundBoards.{SoundBoard, handed-back-sound, run-keeps}
 use Rattle.agreement.specs.Demand3.{Hunts, Demand3, registersOf, linksOf, followersOf, endsHunting}
 use Rattle.agreement.specs.Exchange.{answersOfExchange, physAfterExchange, Exchanged, SameAsPlain}
 use Rattle.agreement.proofs.Demand3.{demand-3}
-use Rattle.agreement.proofs.ExchangeCalls.{done-by}
 
 -- two results that meet the promise of `exchange` are equal, as are the answers
 pub exchange-unique : (board : Board) (list events out : List ℕ) {r s : Outcome} {out₁ out₂ : List ℕ} → Exchanged board list events out r out₁ → Exchanged board list events out s out₂ → (r ≡ s) × (out₁ ≡ out₂)
@@ -57,6 +60,11 @@ ends-hunt (t ∷ ts) board hunt = all-map-of HuntsIn (λ phy. Hunting 1) (physOf
 ends-length : (ts : List Transaction) (board : Board) → length (endsHunting ts board) ≡ length (physOf board)
 ends-length [] board = length-map (physOf board) (λ phy. phy .follower)
 ends-length (t ∷ ts) board = length-map (physOf board) (λ phy. Hunting 1)
+
+-- a board of n PHYs that is ready for exchanges: sound, every field within its type, and every PHY hunting
+pub record ReadyBoard (n : ℕ) (board : Board) : Type 0 where
+  pub sound : SoundBoard n board
+  pub hunt : All Hunts (physOf board)
 
 -- Every PHY hunts; what Rust's types say holds; the board need not be sound, nor the list accepted
 module _ (board : Board) (list events out : List ℕ) (typed : TypedBoard board) (bytes : (i : ℕ) → byteAt list i < 256) (hunt : All Hunts (physOf board)) where
@@ -116,6 +124,19 @@ module _ (board : Board) (list events out : List ℕ) (typed : TypedBoard board)
           let same : length after ≡ length (physOf board) = sym (length-map after (λ phy. phy .follower)) ∙ ap length ends ∙ ends-length (transactions list) board in
           subst (All Hunts) (sym (phys-of-with board after same)) (all-hunt after (subst (All HuntsIn) (sym ends) (ends-hunt (transactions list) board hunt)))
 
+-- "Every call keeps it": an exchange is a run of translated steps or a refusal
+module _ {n : ℕ} {board : Board} (list events : List ℕ) {out : List ℕ} {r : Outcome} {out′ : List ℕ} where
+  pub exchange-sound : SoundBoard n board → Exchanged board list events out r out′ → SoundBoard n (r .board)
+  exchange-sound is exchanged = handed-back-sound is (run-keeps is events (translation list)) exchanged
+
+  -- so after an exchange the board is ready for another, which again answers as `plain` does
+  pub exchange-ready : ((i : ℕ) → byteAt list i < 256) → ReadyBoard n board → Exchanged board list events out r out′ → ReadyBoard n (r .board)
+  exchange-ready bytes ready exchanged =
+      record {
+        sound = exchange-sound (ready .sound) exchanged;
+        hunt = exchange-hunts board list events out (ready .sound .typed) bytes (ready .hunt) exchanged;
+      }
+
 -- "A load gives hunting": so on a board that was just loaded the two answer alike
 pub loaded-hunts : (file : List ℕ) → All Hunts (physOf (loaded file .board))
 unfolding loaded boardOf phyAt
@@ -126,6 +147,9 @@ loaded-hunts file = go (boardVerdict file)
         subst (All Hunts) (sym (take-at (tabulate n (phyAt file)) _ n (length-tabulate n (phyAt file))))
         (all-tabulate Hunts n (phyAt file) (λ k within. record { ones = 0; hunting = refl }))
     go (Refused c k) = tt
+
+pub loaded-ready : (file : List ℕ) → TypedBoard (loaded file .board) → ReadyBoard (loaded file .board .count) (loaded file .board)
+loaded-ready file typed = record { sound = record { typed = typed; passes = load-sound file }; hunt = loaded-hunts file }
 
 module _ (file list events out : List ℕ) (typed : TypedBoard (loaded file .board)) (bytes : (i : ℕ) → byteAt list i < 256) where
   pub loaded-agrees : {r s : Outcome} {out₁ out₂ : List ℕ} → Exchanged (loaded file .board) list events out r out₁ → Planned (loaded file .board) list events out s out₂ → SameAsPlain r s out₁ out₂

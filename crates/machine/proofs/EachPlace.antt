@@ -3,6 +3,7 @@ use Prim.Native.Nat.{ℕ, zero, suc, _+_, _-_}
 use mathlib.Core.Path.{_≡_, refl, sym, ap, subst, _∙_}
 use mathlib.Core.Bool.{Bool, true, false, cond}
 use mathlib.Core.List.{List, [], _∷_, map}
+use lib.ListN.{length, length-map}
 use Rattle.verdict.specs.Lists.{All}
 use Rattle.verdict.proofs.Elements.{all-map, map-then, map-stays}
 use Rattle.frame.specs.declared.list.Transaction.{Transaction}
@@ -35,6 +36,10 @@ module _ {P : Type 0} (Q : (P → P) → Type 0) where
 -- one property from another
 pub each-as : {P : Type 0} {Q R : (P → P) → Type 0} {ps qs : List P} → ((f : P → P) → Q f → R f) → Each Q ps qs → Each R ps qs
 each-as turn each = record { on-each = each .on-each; is = turn (each .on-each) (each .is); maps = each .maps }
+
+-- as many as they were
+pub each-length : {P : Type 0} {Q : (P → P) → Type 0} {ps qs : List P} → Each Q ps qs → length qs ≡ length ps
+each-length {ps = ps} each = ap length (each .maps) ∙ length-map ps (each .on-each)
 
 -- what relates every party to itself, and to what two changes make of it, is such a property
 pub closed-by : {P : Type 0} (R : P → P → Type 0) → ((p : P) → R p p) → ((p q r : P) → R p q → R q r → R p r) → Closed (λ (f : P → P). (p : P) → R p (f p))

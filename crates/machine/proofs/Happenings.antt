@@ -82,12 +82,13 @@ pub record Split (events : List ℕ) (c k : ℕ) : Type 0 where
 pub split-start : (events : List ℕ) → Split events 0 0
 split-start events = record { within = omega arith; earlier = λ i h. absurd (omega arith); later = λ i h l. omega arith }
 
--- an accepted event file rises
-no-clock-fault : (a b : Bool) → wrongEvent when a else wrongClock when b ≡ 0 → b ≡ false
-no-clock-fault true b e = absurd (omega arith)
-no-clock-fault false true e = absurd (omega arith)
-no-clock-fault false false e = refl
+-- a record that passes 8 and 9
+pub no-event-fault : (a b : Bool) → wrongEvent when a else wrongClock when b ≡ 0 → (a ≡ false) × (b ≡ false)
+no-event-fault true b e = absurd (omega arith)
+no-event-fault false true e = absurd (omega arith)
+no-event-fault false false e = (refl, refl)
 
+-- an accepted event file rises
 pub accepted-rising : (board : Board) (events : List ℕ) (last n : ℕ) → eventsVerdict board events last ≡ Done n → Rising events
 unfolding eventFault
 accepted-rising board events last n done = go
@@ -96,7 +97,7 @@ accepted-rising board events last n done = go
     step k h =
         let good = accepted eventRecord mostEvents (eventFault board events last) events n done in
         let passes = good .all-pass (suc k) (omega (arith, good .count)) in
-        let clock = no-clock-fault (eventWrong board events (suc k)) (clockWrong events last (suc k)) passes in
+        let clock = no-event-fault (eventWrong board events (suc k)) (clockWrong events last (suc k)) passes .1 in
         ltb-false _ _ (neither _ _ clock .0)
 
     go : (i j : ℕ) → i ≤ j → j < records eventRecord events → eventClock events i ≤ eventClock events j

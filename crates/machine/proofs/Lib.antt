@@ -17,4 +17,7 @@ pub mod Alike
 pub mod Accepts
 pub mod Begins
 pub mod RunLaws
+pub mod EventParts
+pub mod RunParts
+pub mod PartsAccepted
 pub mod SoundBoards

@@ -158,7 +158,7 @@ module _ {n : ℕ} {board : Board} (is : SoundBoard n board) where
   module _ (events : List ℕ) where
     -- any steps and any events, whether the checks would let them through or not
     module _ (steps : List ℕ) where
-      run-keeps : Each KeepsSound (physOf board) (physAfterRun board steps events)
+      pub run-keeps : Each KeepsSound (physOf board) (physAfterRun board steps events)
       run-keeps = run-changes sound-closed events (happens-keeps events) clock-keeps board steps
 
       pub run-sound : SoundBoard n (withPhys board (physAfterRun board steps events))

@@ -1,5 +1,6 @@
 pub mod Outcome
 pub mod Events
+pub mod Parts
 pub mod Acts
 pub mod Log
 pub mod Run

@@ -8,10 +8,10 @@ use native.Mathlib.Numerals.{add-one}
 use native.Mathlib.Decide.{ℕ-discrete}
 use lib.ListN.{length}
 use lib.Dec.{eqb, ltb}
-use borrow.Author.Tests.{eqb-true, eqb-false, ltb-true, ltb-false}
+use borrow.Author.Tests.{eqb-true, eqb-false, ltb-true, ltb-false, eq-eqb, le-ltb}
 use Rattle.verdict.specs.declared.Verdict.{Verdict}
 use Rattle.verdict.specs.declared.Verdict.the-variants.{Done, Refused}
-use Rattle.verdict.specs.Refusal.{wrongLength, tooMany, _when_, refuse}
+use Rattle.verdict.specs.Refusal.{wrongLength, tooMany, _when_, refuse, andThen}
 use Rattle.verdict.specs.File.{records, inOrder, fileVerdict}
 
 module _ (fault : ℕ → ℕ) (v : Verdict) where
@@ -117,6 +117,16 @@ all-pass-done fault v k (suc left) h =
     rw (h k (omega arith) (omega arith))
     (all-pass-done fault v (suc k) left (λ i f l. h i (omega arith) (omega arith)))
 
+-- a chain of checks that is done passed its first, and the rest is done too
+pub record Passes (first : Verdict) (next : ℕ → Verdict) (m : ℕ) : Type 0 where
+  pub count : ℕ
+  pub passes : first ≡ Done count
+  pub rest : next count ≡ Done m
+
+pub done-by : (first : Verdict) (next : ℕ → Verdict) {m : ℕ} → andThen first next ≡ Done m → Passes first next m
+done-by (Done n) next e = record { count = n; passes = refl; rest = e }
+done-by (Refused c k) next e = absurd (let z : _≡_ {A = ℕ} 0 1 = cc in omega arith)
+
 -- What a whole file's verdict says
 module _ (size most : ℕ) (fault : ℕ → ℕ) (file : List ℕ) where
   -- an accepted file
@@ -154,6 +164,13 @@ module _ (size most : ℕ) (fault : ℕ → ℕ) (file : List ℕ) where
             allowed = omega (arith, ltb-false most _ q, pass .0);
             all-pass = λ k h. pass .1 k (omega arith) (omega (arith, pass .0));
           }
+
+  -- and the other way round
+  pub accepts : (n : ℕ) → Accepted n → fileVerdict size most fault file ≡ Done n
+  unfolding fileVerdict
+  accepts n good =
+      rw (eq-eqb (length file % size) 0 (good .whole), sym (good .count), le-ltb most n (good .allowed))
+      (all-pass-done fault (Done n) 0 n (λ k h l. good .all-pass k (omega arith)))
 
   pub why-refused : (c j : ℕ) → fileVerdict size most fault file ≡ Refused c j → WhyRefused c j
   unfolding fileVerdict by-tests in-records

@@ -1,12 +1,12 @@
--- A run over a ++ b is a run over a, then one over b from where a left off: so a run is told phase by phase.
-use Prim.Native.Nat.{ℕ, suc, _+_, _≤_}
+-- A run over a ++ b is a run over a, then one over b from where a left off: so a run is told phase by phase. Clocks count only for what happens after them.
+use Prim.Native.Nat.{ℕ, suc, _+_, _≤_, _<_}
 use mathlib.Core.Path.{_≡_, refl, ap, ap₂, sym, _∙_, subst}
 use mathlib.Core.Bool.{Bool}
 use mathlib.Core.List.{List, [], _∷_, _++_, map, map-append}
 use native.Mathlib.Omega.{arith}
 use lib.ListN.{length, length-append}
 use Rattle.verdict.specs.Lists.{All}
-use Rattle.verdict.proofs.Elements.{all-append}
+use Rattle.verdict.proofs.Elements.{all-of, all-append, map-same}
 use Rattle.wire.specs.declared.Drive.{Drive}
 use Rattle.wire.specs.Wire.{Party, levelOf, drivers, drivesOf, eventsAfter, runs, driven}
 
@@ -78,3 +78,34 @@ module _ {P : Type 0} (party : Party P) where
 
     pub goes-to : {a : List Drive} {la : List Bool} {c′ : ℕ} {qs rs : List P} → Goes a c ps la c′ qs → qs ≡ rs → Goes a c ps la c′ rs
     goes-to run parties = goes-as run refl refl refl parties
+
+-- Two runs of the same parties, in which the same happens after n clocks of the one, c being gone, and of the other, c′ being gone: all goes alike
+module _ {P : Type 0} (first second : ℕ → P → P) where
+  pub record HappensAlike (c c′ n : ℕ) : Type 0 where
+    pub same : (i j : ℕ) → c < i → i ≤ c + n → i + c′ ≡ j + c → (p : P) → first i p ≡ second j p
+
+  next-alike : {c c′ n : ℕ} → HappensAlike c c′ (suc n) → (ps : List P) → map (first (suc c)) ps ≡ map (second (suc c′)) ps
+  next-alike {c} {c′} alike ps =
+      map-same (first (suc c)) (second (suc c′)) ps (all-of _ ps (alike .same (suc c) (suc c′) (omega arith) (omega arith) (omega arith)))
+
+  rest-alike : {c c′ n : ℕ} → HappensAlike c c′ (suc n) → HappensAlike (suc c) (suc c′) n
+  rest-alike alike = record { same = λ i j past within shift. alike .same i j (omega arith) (omega arith) (omega arith) }
+
+  module _ (drives : P → Drive) (samples : Bool → P → P) where
+    abbrev with-happening : (ℕ → P → P) → Party P
+    with-happening happens = record { drives = drives; samples = samples; happens = happens }
+
+    pub runs-alike : (ds : List Drive) (c c′ : ℕ) (ps : List P) → HappensAlike c c′ (length ds) → runs (with-happening first) ds c ps ≡ runs (with-happening second) ds c′ ps
+    unfolding runs
+    runs-alike [] c c′ ps alike = refl
+    runs-alike (d ∷ ds) c c′ ps alike =
+        ap (runs (with-happening first) ds (suc c)) (next-alike alike (map (samples (levelOf (d ∷ map drives ps))) ps))
+        ∙ runs-alike ds (suc c) (suc c′) _ (rest-alike alike)
+
+    pub driven-alike : (ds : List Drive) (c c′ : ℕ) (ps : List P) → HappensAlike c c′ (length ds) → driven (with-happening first) ds c ps ≡ driven (with-happening second) ds c′ ps
+    unfolding driven
+    driven-alike [] c c′ ps alike = refl
+    driven-alike (d ∷ ds) c c′ ps alike =
+        ap (λ es. (d ∷ map drives ps) ∷ es)
+        (ap (driven (with-happening first) ds (suc c)) (next-alike alike (map (samples (levelOf (d ∷ map drives ps))) ps))
+        ∙ driven-alike ds (suc c) (suc c′) _ (rest-alike alike))
