@@ -17,6 +17,7 @@ use crate::buffers::Steps;
 use crate::script::Word;
 use crate::text;
 use board::Board;
+use machine::Outcome;
 use verdict::Verdict;
 
 // The first bytes of a buffer; all of it where it has fewer.
@@ -71,6 +72,13 @@ pub(crate) fn boards(board: Board, word: Word, file: &File, events: &Events) {
     }
 }
 
+// What a machine answers is printed, and its board goes on.
+fn told(outcome: Outcome) -> Board {
+    let verdict = outcome.verdict;
+    text::answer(verdict);
+    outcome.board
+}
+
 fn run(board: Board, word: Word, steps: &[u8], events: &[u8], log: &mut [u8]) -> Board {
     let room = word.b as usize;
     if room <= log.len() {
@@ -80,9 +88,7 @@ fn run(board: Board, word: Word, steps: &[u8], events: &[u8], log: &mut [u8]) ->
             first(events, word.c),
             &mut log[..room],
         );
-        let verdict = outcome.verdict;
-        text::answer(verdict);
-        return outcome.board;
+        return told(outcome);
     }
     board
 }
@@ -96,9 +102,7 @@ fn plain(board: Board, word: Word, list: &[u8], events: &[u8], answers: &mut [u8
             first(events, word.c),
             &mut answers[..room],
         );
-        let verdict = outcome.verdict;
-        text::answer(verdict);
-        return outcome.board;
+        return told(outcome);
     }
     board
 }

@@ -24,8 +24,8 @@ slice-aggregate-plain c = sym (length-take-le _ _ (omega arith))
 plain-requires : tie.Need-plain-requires
 plain-requires c κs = search needs
 
-answer-requires : tie.Need-answer-requires
-answer-requires c κs = search needs
+told-requires : tie.Need-told-requires
+told-requires c κs = search needs
 
 same-length : tie.Need-same-length
 same-length c = search needs
@@ -46,7 +46,7 @@ plain-spec =
     slice-relend-prefix-plain
     slice-aggregate-plain
     plain-requires
-    answer-requires
+    told-requires
     same-length
     returns
     returns-2)

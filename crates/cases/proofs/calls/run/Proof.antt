@@ -24,8 +24,8 @@ slice-aggregate-run c = sym (length-take-le _ _ (omega arith))
 run-requires : tie.Need-run-requires
 run-requires c κs = search needs
 
-answer-requires : tie.Need-answer-requires
-answer-requires c κs = search needs
+told-requires : tie.Need-told-requires
+told-requires c κs = search needs
 
 same-length : tie.Need-same-length
 same-length c = search needs
@@ -46,7 +46,7 @@ run-spec =
     slice-relend-prefix-run
     slice-aggregate-run
     run-requires
-    answer-requires
+    told-requires
     same-length
     returns
     returns-2)
