@@ -1,12 +1,109 @@
-// Bench cases and limits of document 01 that are run and compared, one line each.
-mod limits;
+// Bench cases and limits of document 01 that are run and compared. A case is a line of the standard input: what is
+// tried, a colon, and the words that try it. The answers that must come are in the file stdout, written from document
+// 01. The cases are data and not code, so that a case more costs nothing to prove.
+mod buffers;
+mod calls;
+mod changes;
+mod script;
+mod show;
 mod text;
 
+use board::Board;
+use buffers::Answers;
+use buffers::Events;
+use buffers::File;
+use buffers::List;
+use buffers::Log;
+use buffers::Steps;
+use script::Word;
+
+// A word that nobody obeys is misspelt: it shows as a question mark.
+fn question(letter: u8) {
+    let obeyed = b",ACDEFGHLMPRSTWacdefhilmnoprsuw";
+    if obeyed.len() <= script::end_of(obeyed, 0, letter) {
+        text::words(b" ?");
+    }
+}
+
+// What a word of a case does, to the buffers and to the board. Each function looks for its own letters.
+fn obey(
+    board: Board,
+    word: Word,
+    file: &mut File,
+    list: &mut List,
+    steps: &mut Steps,
+    events: &mut Events,
+    log: &mut Log,
+    answers: &mut Answers,
+) -> Board {
+    question(word.letter);
+    buffers::write(word, file, list, steps, events);
+    calls::frames(word, list, steps, log, answers);
+    calls::boards(board, word, file, events);
+    let after = calls::machines(board, word, list, steps, events, log, answers);
+    show::all(after, word, steps, log, answers);
+    changes::all(after, word, file)
+}
+
+// Every case starts with the same buffers and with no PHYs.
+fn try_words(line: &[u8], from: usize) {
+    let mut file = buffers::file();
+    let mut list = buffers::list();
+    let mut events = buffers::events();
+    let mut steps = buffers::steps();
+    let mut log = buffers::log();
+    let mut answers = buffers::answers();
+    let mut board = changes::none();
+    let mut at = from;
+    while at < line.len() {
+        let word = script::word_at(line, at);
+        let next = word.next;
+        if next <= at {
+            return;
+        }
+        let after = obey(
+            board,
+            word,
+            &mut file,
+            &mut list,
+            &mut steps,
+            &mut events,
+            &mut log,
+            &mut answers,
+        );
+        board = after;
+        at = next;
+    }
+}
+
+// A line without a colon is no case.
+fn try_line(line: &[u8]) {
+    let colon = script::end_of(line, 0, b':');
+    if colon < line.len() {
+        let words = colon + 1;
+        text::words(&line[..words]);
+        try_words(line, words);
+        text::words(b"\n");
+    }
+}
+
+fn try_lines(cases: &[u8]) {
+    let mut at = 0;
+    while at < cases.len() {
+        let end = script::end_of(cases, at, b'\n');
+        if end < at {
+            return;
+        }
+        if cases.len() < end {
+            return;
+        }
+        try_line(&cases[at..end]);
+        at = end + 1;
+    }
+}
+
 fn main() {
-    limits::of_lists();
-    limits::of_outputs();
-    limits::of_fields();
-    limits::of_logs();
-    limits::of_answers();
-    limits::of_parts();
+    let mut input = io::large_buffer();
+    let count = io::read_full(libc::STDIN_FILENO, &mut input);
+    try_lines(&input[..count]);
 }

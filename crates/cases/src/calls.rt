@@ -1,0 +1,126 @@
+// The words that call what is tried and print its answer:
+//
+//     Translate L N     the list's first L bytes into the first N of the steps
+//     Decode L G N      the list's first L bytes and the log's first G into the first N of the answers
+//     Measure G K       how long part K of the log's first G bytes is
+//     Load N            the board file's first N bytes
+//     Check             the board
+//     Events N C        check the events' first N bytes on the board, where the last clock is C
+//     Run S G N         the first S steps and the events' first N bytes, into the log's first G
+//     Plain L A N       the list's first L bytes and the events' first N, into the first A of the answers
+use crate::buffers::Answers;
+use crate::buffers::Events;
+use crate::buffers::File;
+use crate::buffers::List;
+use crate::buffers::Log;
+use crate::buffers::Steps;
+use crate::script::Word;
+use crate::text;
+use board::Board;
+use machine::Outcome;
+use verdict::Verdict;
+
+// The first bytes of a buffer; all of it where it has fewer.
+fn first(buffer: &[u8], n: u32) -> &[u8] {
+    let end = n as usize;
+    if end <= buffer.len() {
+        return &buffer[..end];
+    }
+    buffer
+}
+
+fn translate(word: Word, list: &[u8], steps: &mut [u8]) {
+    let room = word.b as usize;
+    if room <= steps.len() {
+        text::answer(frame::translate(first(list, word.a), &mut steps[..room]));
+    }
+}
+
+fn decode(word: Word, list: &[u8], log: &[u8], answers: &mut [u8]) {
+    let room = word.c as usize;
+    if room <= answers.len() {
+        text::answer(frame::decode(
+            first(list, word.a),
+            first(log, word.b),
+            &mut answers[..room],
+        ));
+    }
+}
+
+pub(crate) fn frames(word: Word, list: &List, steps: &mut Steps, log: &Log, answers: &mut Answers) {
+    let letter = word.letter;
+    match letter {
+        b'T' => translate(word, list, steps),
+        b'D' => decode(word, list, log, answers),
+        b'M' => text::number(frame::log_part(first(log, word.a), word.b as usize).len()),
+        _ => {}
+    }
+}
+
+fn load(file: &[u8]) -> Verdict {
+    let loaded = board::load(file);
+    loaded.verdict
+}
+
+pub(crate) fn boards(board: Board, word: Word, file: &File, events: &Events) {
+    let letter = word.letter;
+    match letter {
+        b'L' => text::answer(load(first(file, word.a))),
+        b'C' => text::answer(board::check(board)),
+        b'E' => text::answer(board::check_events(board, first(events, word.a), word.b as usize)),
+        _ => {}
+    }
+}
+
+// What a machine answers is printed, and its board goes on.
+fn told(outcome: Outcome) -> Board {
+    let verdict = outcome.verdict;
+    text::answer(verdict);
+    outcome.board
+}
+
+fn run(board: Board, word: Word, steps: &[u8], events: &[u8], log: &mut [u8]) -> Board {
+    let room = word.b as usize;
+    if room <= log.len() {
+        let outcome = machine::run(
+            board,
+            first(steps, word.a),
+            first(events, word.c),
+            &mut log[..room],
+        );
+        return told(outcome);
+    }
+    board
+}
+
+fn plain(board: Board, word: Word, list: &[u8], events: &[u8], answers: &mut [u8]) -> Board {
+    let room = word.b as usize;
+    if room <= answers.len() {
+        let outcome = machine::plain(
+            board,
+            first(list, word.a),
+            first(events, word.c),
+            &mut answers[..room],
+        );
+        return told(outcome);
+    }
+    board
+}
+
+// The board that a machine hands back; of any other word the board itself.
+pub(crate) fn machines(
+    board: Board,
+    word: Word,
+    list: &List,
+    steps: &Steps,
+    events: &Events,
+    log: &mut Log,
+    answers: &mut Answers,
+) -> Board {
+    let letter = word.letter;
+    match letter {
+        b'R' => run(board, word, steps, events, log),
+        b'P' => plain(board, word, list, events, answers),
+        _ => board,
+    }
+}
