@@ -265,7 +265,7 @@ module _ (board : Board) (a b events : List ℕ) where
     pub second-done : second .verdict ≡ Done (length b * logRecord)
     second-done =
         runs-second .writes .verdict
-        ∙ ap (λ from. running from b late out₂) (board-left a early runs-first first-done)
+        ∙ ap (λ from. running from b late out₂) (board-left board a early runs-first first-done)
         ∙ passing .second out₂ room₂
 
     pub stops-and-goes-on : (whole .board ≡ second .board) × (take (length (a ++ b) * logRecord) log ≡ take (length a * logRecord) log₁ ++ take (length b * logRecord) log₂)

@@ -96,7 +96,7 @@ module _ (board : Board) (a b events : List ℕ) {early late : List ℕ} (apart 
       ∙ ap₂ (λ (xs ys : List ℕ). xs ++ ys) first-log (ap₂ (λ who clocks. join (map (clockRecord who) clocks)) (sym same-addresses) rest)
 
 -- what a run that succeeds leaves, and the log that it wrote
-module _ (steps events : List ℕ) {board : Board} {out : List ℕ} {r : Outcome} {out′ : List ℕ} {n : ℕ} (ran : Ran board steps events out r out′) (done : r .verdict ≡ Done n) where
+module _ (board : Board) (steps events : List ℕ) {out : List ℕ} {r : Outcome} {out′ : List ℕ} {n : ℕ} (ran : Ran board steps events out r out′) (done : r .verdict ≡ Done n) where
   answer : running board steps events out ≡ Done n
   answer = sym (ran .writes .verdict) ∙ done
 
@@ -131,15 +131,15 @@ module _ (board : Board) (a b events : List ℕ) where
     pub same-board : whole .board ≡ second .board
     same-board =
         let left = physAfterRun board a early in
-        board-left (a ++ b) events runs-whole done
+        board-left board (a ++ b) events runs-whole done
         ∙ ap (withPhys board) run-in-parts
         ∙ sym (with-with board left (each-length (run-keeps-addresses board a early)) (physAfterRun (withPhys board left) b late))
-        ∙ ap (λ between. withPhys between (physAfterRun between b late)) (sym (board-left a early runs-first done₁))
-        ∙ sym (board-left b late runs-second done₂)
+        ∙ ap (λ between. withPhys between (physAfterRun between b late)) (sym (board-left board a early runs-first done₁))
+        ∙ sym (board-left (first .board) b late runs-second done₂)
 
     pub same-log : take (length (a ++ b) * logRecord) log ≡ take (length a * logRecord) log₁ ++ take (length b * logRecord) log₂
     same-log =
-        log-left (a ++ b) events runs-whole done
+        log-left board (a ++ b) events runs-whole done
         ∙ log-in-parts
-        ∙ ap₂ (λ (xs ys : List ℕ). xs ++ ys) (sym (log-left a early runs-first done₁))
-        (ap (λ between. logOfRun between b late) (sym (board-left a early runs-first done₁)) ∙ sym (log-left b late runs-second done₂))
+        ∙ ap₂ (λ (xs ys : List ℕ). xs ++ ys) (sym (log-left board a early runs-first done₁))
+        (ap (λ between. logOfRun between b late) (sym (board-left board a early runs-first done₁)) ∙ sym (log-left (first .board) b late runs-second done₂))
