@@ -18,7 +18,6 @@ use crate::script::Word;
 use crate::text;
 use board::Board;
 use machine::Outcome;
-use verdict::Verdict;
 
 // The first bytes of a buffer; all of it where it has fewer.
 fn first(buffer: &[u8], n: u32) -> &[u8] {
@@ -57,15 +56,14 @@ pub(crate) fn frames(word: Word, list: &List, steps: &mut Steps, log: &Log, answ
     }
 }
 
-fn load(file: &[u8]) -> Verdict {
-    let loaded = board::load(file);
-    loaded.verdict
-}
-
 pub(crate) fn boards(board: Board, word: Word, file: &File, events: &Events) {
     let letter = word.letter;
     match letter {
-        b'L' => text::answer(load(first(file, word.a))),
+        b'L' => {
+            let loaded = board::load(first(file, word.a));
+            let verdict = loaded.verdict;
+            text::answer(verdict);
+        }
         b'C' => text::answer(board::check(board)),
         b'E' => text::answer(board::check_events(board, first(events, word.a), word.b as usize)),
         _ => {}

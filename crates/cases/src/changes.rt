@@ -48,61 +48,51 @@ fn follower(phy: Phy, follower: Follower) -> Phy {
     }
 }
 
-// The PHY with one of its words changed.
-fn reworded(mut phy: Phy, letter: u8, register: u32, word: u16) -> Phy {
-    let r = register as usize;
-    if r < 32 {
-        match letter {
-            b'd' => phy.defaults[r] = word,
-            b'm' => phy.masks[r] = word,
-            b'r' => phy.registers[r] = word,
-            _ => {}
-        }
-    }
-    phy
-}
-
-// The PHY with one of its fields changed.
-fn refielded(mut phy: Phy, letter: u8, value: u32) -> Phy {
+// The PHY with a field or a word changed.
+fn refielded(mut phy: Phy, word: Word) -> Phy {
+    let letter = word.letter;
+    let r = (word.b % 32) as usize;
+    let value = (word.c % 0x1_0000) as u16;
     match letter {
-        b'a' => phy.address = (value % 256) as u8,
-        b'i' => phy.implemented = value,
-        b'u' => phy.link = value == 1,
-        b'c' => phy.captured = (value % 0x1_0000) as u16,
+        b'a' => phy.address = (word.b % 256) as u8,
+        b'i' => phy.implemented = word.b,
+        b'u' => phy.link = word.b == 1,
+        b'c' => phy.captured = (word.b % 0x1_0000) as u16,
+        b'd' => phy.defaults[r] = value,
+        b'm' => phy.masks[r] = value,
+        b'r' => phy.registers[r] = value,
         _ => {}
     }
     phy
 }
 
 // The PHY with another follower.
-fn following(phy: Phy, letter: u8, count: u32, bits: u32) -> Phy {
-    let n = (count % 256) as u8;
+fn following(phy: Phy, word: Word) -> Phy {
+    let letter = word.letter;
+    let n = (word.b % 256) as u8;
     match letter {
         b'h' => follower(phy, Follower::Hunting(n)),
-        b'w' => follower(phy, Follower::Inside(n, bits)),
+        b'w' => follower(phy, Follower::Inside(n, word.c)),
         _ => phy,
     }
 }
 
-fn changed(phy: Phy, word: Word) -> Phy {
-    let field = refielded(phy, word.letter, word.b);
-    let words = reworded(field, word.letter, word.b, (word.c % 0x1_0000) as u16);
-    following(words, word.letter, word.b, word.c)
-}
-
-pub(crate) fn all(mut board: Board, word: Word, file: &File) -> Board {
-    let letter = word.letter;
+// The PHY at a place changed.
+pub(crate) fn phy(mut board: Board, word: Word) -> Board {
     let place = word.a as usize;
-    if letter == b'p' {
-        return loaded(file, word.a);
-    }
-    if letter == b'n' {
-        board.count = place;
-        return board;
-    }
     if place < Board::PLACES {
-        let phy = changed(board.phys[place], word);
+        let fields = refielded(board.phys[place], word);
+        let phy = following(fields, word);
         board.phys[place] = phy;
     }
+    board
+}
+
+// Another board, or another number of PHYs.
+pub(crate) fn whole(mut board: Board, word: Word, file: &File) -> Board {
+    if word.letter == b'p' {
+        return loaded(file, word.a);
+    }
+    board.count = word.a as usize;
     board
 }

@@ -17,15 +17,7 @@ use buffers::Log;
 use buffers::Steps;
 use script::Word;
 
-// A word that nobody obeys is misspelt: it shows as a question mark.
-fn question(letter: u8) {
-    let obeyed = b",ACDEFGHLMPRSTWacdefhilmnoprsuw";
-    if obeyed.len() <= script::end_of(obeyed, 0, letter) {
-        text::words(b" ?");
-    }
-}
-
-// What a word of a case does, to the buffers and to the board. Each function looks for its own letters.
+// What a word of a case does, to the buffers and to the board. A misspelt one shows as a question mark.
 fn obey(
     board: Board,
     word: Word,
@@ -36,13 +28,32 @@ fn obey(
     log: &mut Log,
     answers: &mut Answers,
 ) -> Board {
-    question(word.letter);
-    buffers::write(word, file, list, steps, events);
-    calls::frames(word, list, steps, log, answers);
-    calls::boards(board, word, file, events);
-    let after = calls::machines(board, word, list, steps, events, log, answers);
-    show::all(after, word, steps, log, answers);
-    changes::all(after, word, file)
+    let letter = word.letter;
+    match letter {
+        b'f' | b'l' | b'e' | b'o' | b's' => {
+            buffers::write(word, file, list, steps, events);
+            board
+        }
+        b'T' | b'D' | b'M' => {
+            calls::frames(word, list, steps, log, answers);
+            board
+        }
+        b'L' | b'C' | b'E' => {
+            calls::boards(board, word, file, events);
+            board
+        }
+        b'R' | b'P' => calls::machines(board, word, list, steps, events, log, answers),
+        b',' | b'A' | b'H' | b'W' | b'S' | b'G' | b'F' => {
+            show::all(board, word, steps, log, answers);
+            board
+        }
+        b'p' | b'n' => changes::whole(board, word, file),
+        b'a' | b'i' | b'd' | b'm' | b'r' | b'u' | b'h' | b'w' | b'c' => changes::phy(board, word),
+        _ => {
+            text::words(b" ?");
+            board
+        }
+    }
 }
 
 // Every case starts with the same buffers and with no PHYs.
