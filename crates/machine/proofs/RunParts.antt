@@ -22,8 +22,7 @@ use Rattle.machine.specs.Log.{clockRecord}
 use Rattle.machine.specs.Run.{addressesOf, partyWith, stationDrives, atStart, running, physAfterRun, logOfRun, Ran}
 use Rattle.machine.proofs.Places.{phys-of-with, with-with}
 use Rattle.machine.proofs.Lockstep.{clock-address, happens-address}
-use Rattle.machine.proofs.EachPlace.{Each, Leaves, leaves-closed, each-leaves, each-length}
-use Rattle.machine.proofs.EachPlace.{run-changes}
+use Rattle.machine.proofs.EachPlace.{Each, Leaves, leaves-closed, each-leaves, each-length, run-changes}
 use Rattle.machine.proofs.RunLaws.{log-length, run-append, log-append}
 use Rattle.machine.proofs.EventParts.{TakesApart, taken-apart}
 

@@ -8,7 +8,6 @@ use lib.ListN.{length, getD, set, take, drop, drop-of-length-le, length-append, 
 use lib.Seq.{drop-cons, getD-at, length-take-le, take-all, getD-take}
 use Rattle.verdict.specs.Output.{tabulate}
 use Rattle.verdict.proofs.Lists.{length-tabulate, tabulate-of, map-tabulate}
-use Rattle.verdict.specs.Lists.{All}
 use Rattle.phy.specs.declared.Phy.{Phy}
 use Rattle.phy.specs.Sound.{nowhere}
 use Rattle.board.specs.declared.Board.{Board}
@@ -29,12 +28,6 @@ module _ {A : Type 0} where
   pub next-place : (f : ℕ → A) (old xs : List A) (i : ℕ) (d : A) → i < length old → xs ≡ filled f old i → getD xs i d ≡ getD old i d
   next-place f old xs i d h so-far =
       rw (so-far, drop-cons old i d h) (getD-at (tabulate i f) (getD old i d) (drop (suc i) old) d i (length-tabulate i f))
-
-  -- what holds of every element holds of the one at a place
-  pub all-at : (Q : A → Type 0) (xs : List A) (i : ℕ) (d : A) → i < length xs → All Q xs → Q (getD xs i d)
-  all-at Q [] i d h all = absurd (omega arith)
-  all-at Q (x ∷ xs) zero d h all = all .0
-  all-at Q (x ∷ xs) (suc i) d h all = all-at Q xs i d (omega arith) (all .1)
 
   -- the first n elements, one by one
   pub tabulate-take : (n : ℕ) (xs : List A) (d : A) → n ≤ length xs → tabulate n (λ i. getD xs i d) ≡ take n xs

@@ -9,7 +9,8 @@ use borrow.Author.Needs.{needs}
 use Rattle.machine.specs.declared.line.Line.{Line}
 use Rattle.machine.specs.Lines.{noLine, heardFrom}
 use Rattle.machine.specs.Common.{stands, standing}
-use Rattle.machine.proofs.Turns.{all-at, map-at, heard-next}
+use Rattle.verdict.proofs.Elements.{all-at}
+use Rattle.machine.proofs.Turns.{map-at, heard-next}
 use Rattle.machine.proofs.hear.hear.Statement.{statement}
 use Rattle.machine.proofs.hear.hear.Tie as tie
 
