@@ -24,7 +24,7 @@ use Rattle.machine.specs.declared.line.Line.{Line}
 use Rattle.machine.specs.declared.hear.Heard.{Heard}
 use Rattle.machine.specs.declared.common.Common.{Common}
 use Rattle.machine.specs.Lines.{lineOf, noLine, wordless, lineDrives, actsIn, lineActs, lineFollows, hearsDrive, hears, heardFrom}
-use Rattle.machine.specs.Common.{apart, sameFollower, joinedBy, lineWith, stands, standing, silentIn, isSilent, movesAlikeIn, movesAlike, commonFollows}
+use Rattle.machine.specs.Common.{apart, sameFollower, commonWith, lineWith, stands, standing, silentIn, isSilent, movesAlikeIn, movesAlike, commonFollows}
 use Rattle.machine.proofs.Quiet.{bare, quiet-line, quiet-bare}
 use Rattle.machine.proofs.Stands.{take-map, Shows}
 
@@ -151,8 +151,8 @@ same-is (Inside seen bits) (Inside seen′ bits′) e =
 abbrev pub Gathered : Common → ℕ → List Line → Type 0
 Gathered common i lines = map (stands common) (take i lines) ≡ take i lines
 
-one-more : (common : Common) (i : ℕ) (lines : List Line) (line : Line) → i < length lines → Gathered common i lines → Gathered (joinedBy line common) (i + 1) (set lines i line)
-unfolding joinedBy stands
+one-more : (common : Common) (i : ℕ) (lines : List Line) (line : Line) → i < length lines → Gathered common i lines → Gathered (commonWith line common) (i + 1) (set lines i line)
+unfolding commonWith stands
 one-more common i lines line there so-far =
     rw (add-one, take-suc-set lines i line there)
     (go (common .alike) (sameFollower (common .follower) (line .follower)) refl refl)
@@ -171,7 +171,7 @@ one-more common i lines line there so-far =
         map-append (stands all) front (line ∷ []) ∙ ap₂ (λ ls l. ls ++ (l ∷ [])) passed own
 
 -- one line more is put in its place, and held against what was found
-pub gathered-next : (common next : Common) (i : ℕ) (lines after : List Line) (line : Line) → i < length lines → after ≡ set lines i line → next ≡ joinedBy (getD after i noLine) common → Gathered common i lines → Gathered next (i + 1) after
+pub gathered-next : (common next : Common) (i : ℕ) (lines after : List Line) (line : Line) → i < length lines → after ≡ set lines i line → next ≡ commonWith (getD after i noLine) common → Gathered common i lines → Gathered next (i + 1) after
 gathered-next common next i lines after line there put found so-far =
     rw (found, put, getD-set-same lines i line noLine there) (one-more common i lines line there so-far)
 

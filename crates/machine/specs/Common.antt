@@ -25,8 +25,8 @@ sameFollower (Inside seen bits) (Hunting ones) = false
 sameFollower (Inside seen bits) (Inside seen′ bits′) = eqb seen seen′ && eqb bits bits′
 
 -- one line more: it has the same follower, or the lines are not alike
-unfoldable pub joinedBy : Line → Common → Common
-joinedBy line common =
+unfoldable pub commonWith : Line → Common → Common
+commonWith line common =
     record { alike = common .alike && sameFollower (common .follower) (line .follower); follower = common .follower }
 
 -- a line with another follower

@@ -1,7 +1,7 @@
 // What all lines have in common. In most clocks every PHY's follower is the same and moves by the level alone: then one
 // follower tells for all lines.
 ghost use mathlib.Core.Path.{_≡_};
-ghost use Rattle.machine.specs.Common.{apart, ledBy, stands, isSilent, movesAlike, commonFollows, sameFollower, joinedBy};
+ghost use Rattle.machine.specs.Common.{apart, ledBy, stands, isSilent, movesAlike, commonFollows, sameFollower, commonWith};
 use crate::line::Line;
 use phy::Phy;
 use wire::Follower;
@@ -51,7 +51,7 @@ impl Common {
 
     // One line more: it has the same follower, or the lines are not alike.
     pub(crate) fn with(self, line: Line) -> Common
-        ensures { λ r. ⌜ r ≡ joinedBy line self ⌝ }
+        ensures { λ r. ⌜ r ≡ commonWith line self ⌝ }
     {
         let follower = self.follower;
         let other = line.follower;

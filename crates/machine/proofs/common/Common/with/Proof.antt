@@ -1,5 +1,5 @@
 -- Its follower is held against the common one.
-use Rattle.machine.specs.Common.{joinedBy}
+use Rattle.machine.specs.Common.{commonWith}
 use borrow.Author.Needs.{needs}
 use Rattle.machine.proofs.common.Common.with.Statement.{statement}
 use Rattle.machine.proofs.common.Common.with.Tie as tie
@@ -9,7 +9,7 @@ same-follower-requires : tie.Need-same-follower-requires
 same-follower-requires c κs = search needs
 
 returns : tie.Need-returns
-unfolding joinedBy
+unfolding commonWith
 returns c = rw (c .before .same-follower .ensures)
 
 pub with-spec : {M : Type 1} → statement M
