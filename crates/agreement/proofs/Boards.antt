@@ -17,7 +17,7 @@ use Rattle.wire.specs.declared.Follower.the-variants.{Hunting}
 use Rattle.phy.specs.declared.Phy.{Phy}
 use Rattle.phy.specs.Abilities.{one}
 use Rattle.phy.specs.Record.{every}
-use Rattle.phy.specs.Sound.{standsOutside, statusStands, answering, capturedSound, phySound, nowhere}
+use Rattle.phy.specs.Sound.{standsOutside, statusStands, inOwnRead, capturedSound, phySound, nowhere}
 use Rattle.phy.specs.Typed.{Typed, Steady, StatusFixed}
 use Rattle.phy.specs.Clock.{phyCore}
 use Rattle.phy.proofs.Every.{every-each}
@@ -55,10 +55,10 @@ steady phy typed sound =
     record { defaults = typed .defaults; registers = typed .registers; fixed = status-fixed phy (sound-clauses phy sound .bank .status-stands) }
 
 empty : (phy : Phy) (ones : ℕ) → phySound phy ≡ true → phy .follower ≡ Hunting ones → phy .captured ≡ 0
-unfolding answering
+unfolding inOwnRead
 empty phy ones sound hunts =
     let clause = sound-clauses phy sound .captured-sound in
-    let away : answering phy (phy .follower) ≡ false = ap (answering phy) hunts in
+    let away : inOwnRead phy (phy .follower) ≡ false = ap (inOwnRead phy) hunts in
     eqb-true _ 0 (stands-at _ _ clause away)
 
 module _ (board : Board) (n : ℕ) (passes : checked board ≡ Done n) where

@@ -11,7 +11,7 @@ use wire::Follower;
 use wire::Header;
 ghost use mathlib.Core.Path.{_≡_};
 ghost use mathlib.Core.Bool.{_&&_, cond};
-ghost use Rattle.phy.specs.Sound.{controlSound, registersStand, othersAtDefault, resetStands, followerSound, answering, phySound, zeros, huntsFresh, isBlank, blank};
+ghost use Rattle.phy.specs.Sound.{controlSound, registersStand, othersAtDefault, resetStands, followerSound, inOwnRead, phySound, zeros, huntsFresh, isBlank, blank};
 ghost use Rattle.phy.specs.Abilities.{one};
 ghost use Rattle.phy.specs.Control.{speedAble};
 ghost use Rattle.board.specs.Check.{passesAs};
@@ -113,29 +113,20 @@ fn follower_sound(follower: Follower) -> bool
     }
 }
 
-// How many bits a header has, and the op of a read.
-const HEADER_BITS: u8 = 14;
-
-const READ: u8 = 2;
-
 // Whether a PHY is in an own read of an implemented register, from the 14th bit on.
-fn answering(phy: Phy, follower: Follower) -> bool
-    ensures { λ r. ⌜ r ≡ answering phy follower ⌝ }
+fn in_own_read(phy: Phy, follower: Follower) -> bool
+    ensures { λ r. ⌜ r ≡ inOwnRead phy follower ⌝ }
 {
     match follower {
         Follower::Hunting(_) => false,
         Follower::Inside(seen, bits) => {
-            if seen < HEADER_BITS {
+            if seen < Phy::HEADER {
                 return false;
             }
             if Follower::MOST_SEEN < seen {
                 return false;
             }
-            let behind = (seen - HEADER_BITS) as u32;
-            let header = Header::of(bits >> behind);
-            (header.op == READ)
-                & ((header.address == phy.address)
-                    & ((phy.implemented >> (header.register as u32)) % 2 == 1))
+            phy.answers(Header::of(bits >> (seen - Phy::HEADER)))
         }
     }
 }
@@ -155,7 +146,7 @@ fn phy_sound(phy: Phy) -> bool
         | (((control >> 12) % 2 == 1) & !((control >> 9) % 2 == 1));
     let link = !((status >> 2) % 2 == 1) | phy.link;
     let follows = follower_sound(follower);
-    let captured = answering(phy, follower) | (phy.captured == 0);
+    let captured = in_own_read(phy, follower) | (phy.captured == 0);
     registers
         & (status_stands & (control_right & (reset & (complete & (link & (follows & captured))))))
 }

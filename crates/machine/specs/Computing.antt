@@ -12,7 +12,7 @@ use Rattle.wire.specs.Wire.{runs, driven}
 use Rattle.wire.specs.Machines.{quiet, plainAnswers, plainParties}
 use Rattle.phy.specs.Computing as phy
 use Rattle.phy.specs.Record.{any, every, othersImplemented, registerSetRight, unimplementedZero, wordsRight, derivedControl, defaultsRight}
-use Rattle.phy.specs.Sound.{answering, blank, controlSound, followerSound, isBlank, othersAtDefault, phySound, registersStand, standsOutside}
+use Rattle.phy.specs.Sound.{inOwnRead, blank, controlSound, followerSound, isBlank, othersAtDefault, phySound, registersStand, standsOutside}
 use Rattle.board.specs.Record.{faultOf, hasAddress}
 use Rattle.board.specs.Load.{boardOf, loaded, phyAt, recordFault, usedBefore, wordsAt}
 use Rattle.board.specs.Check.{checked, placeSound, recordPasses}
@@ -22,5 +22,5 @@ use Rattle.machine.specs.Log.{clockRecord, maskFrom}
 use Rattle.machine.specs.Run.{stepsVerdict}
 
 unfoldable pub computing : ℕ
-unfolding bits shiftIn inOrder fileVerdict tabulate join list.recordFault transactionAt stepsOf levelAt logPart answerIn runs driven quiet plainAnswers plainParties phy.computing any every othersImplemented registerSetRight unimplementedZero wordsRight derivedControl defaultsRight answering blank controlSound followerSound isBlank othersAtDefault phySound registersStand standsOutside faultOf hasAddress boardOf loaded phyAt recordFault usedBefore wordsAt checked placeSound recordPasses eventFault happensFrom clockRecord maskFrom stepsVerdict
+unfolding bits shiftIn inOrder fileVerdict tabulate join list.recordFault transactionAt stepsOf levelAt logPart answerIn runs driven quiet plainAnswers plainParties phy.computing any every othersImplemented registerSetRight unimplementedZero wordsRight derivedControl defaultsRight inOwnRead blank controlSound followerSound isBlank othersAtDefault phySound registersStand standsOutside faultOf hasAddress boardOf loaded phyAt recordFault usedBefore wordsAt checked placeSound recordPasses eventFault happensFrom clockRecord maskFrom stepsVerdict
 computing = 0

@@ -12,7 +12,7 @@ use Rattle.phy.specs.Abilities.{one, able10, able100, able1000, ableHalf
 use Rattle.phy.specs.Control.{speedAble}
 use Rattle.phy.specs.Clock.{fresh}
 use Rattle.phy.specs.Record.{word, registerCount, statusClear, extendedClear, someAbility, derivedControl, controlDerived, wordsRight}
-use Rattle.phy.specs.Sound.{standsOutside, registersStand, followerSound, answering, phySound}
+use Rattle.phy.specs.Sound.{standsOutside, registersStand, followerSound, inOwnRead, phySound}
 use Rattle.phy.proofs.Every.{both, each-every}
 use Rattle.phy.proofs.Clauses.{Clauses, ControlClauses, clauses-sound}
 
@@ -131,7 +131,7 @@ module _ (address implemented : ℕ) (defaults masks : List ℕ) where
       }
 
   fresh-clauses : ControlBits control status extended → someAbility status extended ≡ true → one 5 status ≡ false → one 2 status ≡ false → Clauses new
-  unfolding registersStand followerSound answering
+  unfolding registersStand followerSound inOwnRead
   fresh-clauses at some five two =
       record {
         bank = record {

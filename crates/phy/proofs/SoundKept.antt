@@ -22,7 +22,7 @@ use Rattle.phy.specs.Events.{event}
 use Rattle.phy.specs.Clock.{enough, answers, stores, afterHeader, afterFrame, clock}
 use Rattle.phy.specs.Typed.{Typed}
 use Rattle.phy.specs.Record.{registerSetRight, unimplementedZero, masksZero, statusClear, extendedClear, someAbility, controlDerived, wordsRight, defaultsRight}
-use Rattle.phy.specs.Sound.{registersStand, othersAtDefault, followerSound, firstBits, answering, capturedSound, phySound}
+use Rattle.phy.specs.Sound.{registersStand, othersAtDefault, followerSound, firstBits, inOwnRead, capturedSound, phySound}
 use Rattle.phy.proofs.Every.{both}
 use Rattle.phy.proofs.Implemented.{implemented-below}
 use Rattle.phy.proofs.Clauses.{Bank, Clauses, sound-clauses, clauses-sound}
@@ -112,10 +112,10 @@ module _ (p : Phy) (s : SoundPhy p) where
       go false = bank
 
 -- whom a PHY answers does not go by registers and link
-answering-same : (registers : List ℕ) (link : Bool) (p : Phy) (f : Follower) → answering (withBank registers link p) f ≡ answering p f
-unfolding answering answers implements
-answering-same registers link p (Hunting ones) = refl
-answering-same registers link p (Inside seen bits) = refl
+inOwnRead-same : (registers : List ℕ) (link : Bool) (p : Phy) (f : Follower) → inOwnRead (withBank registers link p) f ≡ inOwnRead p f
+unfolding inOwnRead answers implements
+inOwnRead-same registers link p (Hunting ones) = refl
+inOwnRead-same registers link p (Inside seen bits) = refl
 
 -- an effect that leaves registers and link sound leaves the PHY sound
 module _ {f : Phy → Phy} (effect : Effect f) (p : Phy) (s : SoundPhy p) where
@@ -130,7 +130,7 @@ module _ {f : Phy → Phy} (effect : Effect f) (p : Phy) (s : SoundPhy p) where
               bank = b;
               follower-sound = ap (λ q. followerSound (q .follower)) (effect .bank p) ∙ now .follower-sound;
               captured-sound = ap capturedSound (effect .bank p)
-                  ∙ ap (λ (t : Bool). t || eqb (p .captured) 0) (answering-same (f p .registers) (f p .link) p (p .follower))
+                  ∙ ap (λ (t : Bool). t || eqb (p .captured) 0) (inOwnRead-same (f p .registers) (f p .link) p (p .follower))
                   ∙ now .captured-sound;
             };
       }
@@ -183,26 +183,26 @@ started-sound (Inside seen bits) h =
 
 -- The captured word: "only in an own read of an implemented register from its 14th bit on, else 0"
 sound-captured : (p : Phy) → capturedSound p ≡ true → CapturedOnly p
-unfolding answering
-sound-captured p h = go (answering p (p .follower)) refl
+unfolding inOwnRead
+sound-captured p h = go (inOwnRead p (p .follower)) refl
   where
-    reads : (f : Follower) → p .follower ≡ f → answering p f ≡ true → OwnRead 14 p
+    reads : (f : Follower) → p .follower ≡ f → inOwnRead p f ≡ true → OwnRead 14 p
     reads (Hunting ones) now e = absurd (let z : _≡_ {A = ℕ} 0 1 = cc in omega arith)
     reads (Inside seen bits) now e =
         let least = both (leb 14 seen) (leb seen 31 && answers (headerSeen seen bits) p) e in
         let most = both (leb seen 31) (answers (headerSeen seen bits) p) (least .1) in
         record { seen = seen; bits = bits; now = now; own = most .1; from = leb-true 14 seen (least .0); upto = leb-true seen 31 (most .0) }
 
-    go : (t : Bool) → answering p (p .follower) ≡ t → CapturedOnly p
+    go : (t : Bool) → inOwnRead p (p .follower) ≡ t → CapturedOnly p
     go true e = inr (reads (p .follower) refl e)
     go false e = inl (eqb-true (p .captured) 0 (rw e at h))
 
 captured-sound : (p : Phy) → CapturedOnly p → capturedSound p ≡ true
-unfolding answering
-captured-sound p (inl none) = ap (λ (w : ℕ). answering p (p .follower) || eqb w 0) none ∙ or-true (answering p (p .follower))
-captured-sound p (inr read) = ap (λ (t : Bool). t || eqb (p .captured) 0) (ap (answering p) (read .now) ∙ reads)
+unfolding inOwnRead
+captured-sound p (inl none) = ap (λ (w : ℕ). inOwnRead p (p .follower) || eqb w 0) none ∙ or-true (inOwnRead p (p .follower))
+captured-sound p (inr read) = ap (λ (t : Bool). t || eqb (p .captured) 0) (ap (inOwnRead p) (read .now) ∙ reads)
   where
-    reads : answering p (Inside (read .seen) (read .bits)) ≡ true
+    reads : inOwnRead p (Inside (read .seen) (read .bits)) ≡ true
     reads = rw (le-leb 14 (read .seen) (read .from), le-leb (read .seen) 31 (read .upto), read .own)
 
 -- registers and link do not go by follower and captured word

@@ -112,13 +112,13 @@ followerSound (Inside seen bits) =
     && (leb seen (frameBits - 1) && (eqb (firstBits 1 seen bits) 0 && (leb seen 1 || eqb (firstBits 2 seen bits) 1)))
 
 -- "in an own read of an implemented register from its 14th bit on"
-unfoldable pub answering : Phy → Follower → Bool
-answering p (Hunting ones) = false
-answering p (Inside seen bits) = leb headerBits seen && (leb seen (frameBits - 1) && answers (headerSeen seen bits) p)
+unfoldable pub inOwnRead : Phy → Follower → Bool
+inOwnRead p (Hunting ones) = false
+inOwnRead p (Inside seen bits) = leb headerBits seen && (leb seen (frameBits - 1) && answers (headerSeen seen bits) p)
 
 -- "a captured word, of any value, only in an own read (..), else 0"
 abbrev pub capturedSound : Phy → Bool
-capturedSound p = answering p (p .follower) || eqb (p .captured) 0
+capturedSound p = inOwnRead p (p .follower) || eqb (p .captured) 0
 
 -- all that "A sound board" asks of one PHY beside its record
 unfoldable pub phySound : Phy → Bool

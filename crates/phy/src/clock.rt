@@ -17,7 +17,7 @@ impl Phy {
     // Of a frame's bits, those seen before the header's last one, and those of the header.
     pub const BEFORE_HEADER: u8 = 13;
 
-    const HEADER: u8 = 14;
+    pub const HEADER: u8 = 14;
     // The bits seen before the clock in which an answer starts: it drives 0 for bit 16.
     pub const BEFORE_ANSWER: u8 = 15;
     // How many values the 18 bits behind a header have, and the last 16 of them, the data.

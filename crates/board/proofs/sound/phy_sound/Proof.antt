@@ -28,8 +28,8 @@ reset-stands-requires c κs = search needs
 follower-sound-requires : tie.Need-follower-sound-requires
 follower-sound-requires c κs = search needs
 
-answering-requires : tie.Need-answering-requires
-answering-requires c κs = search needs
+in-own-read-requires : tie.Need-in-own-read-requires
+in-own-read-requires c κs = search needs
 
 returns : tie.Need-returns
 unfolding phySound
@@ -40,7 +40,7 @@ returns c =
       c .before .before .before .control-sound .ensures,
       c .before .before .reset-stands .ensures,
       c .before .follower-sound .ensures,
-      c .answering .ensures,
+      c .in-own-read .ensures,
     )
 
 pub phy-sound-spec : {M : Type 1} → statement M
@@ -55,5 +55,5 @@ phy-sound-spec =
     control-sound-requires
     reset-stands-requires
     follower-sound-requires
-    answering-requires
+    in-own-read-requires
     returns)
