@@ -8,7 +8,7 @@ use native.Mathlib.Numerals.{add-one}
 use lib.Dec.{eqb}
 use lib.ListN.{length, getD, set, take, drop, length-map, length-take}
 use lib.Seq.{getD-set-same, take-suc-set}
-use borrow.Author.Tests.{ltb-true, eqb-true}
+use borrow.Author.Tests.{ltb-true, eqb-true, not-true}
 use Rattle.verdict.specs.Lists.{All}
 use Rattle.verdict.proofs.Elements.{all-map-of, map-stays, map-then}
 use Rattle.wire.specs.declared.Drive.the-variants.{Released}
@@ -62,9 +62,7 @@ hears-silent common silent heard (suc n) (line ∷ lines) =
 
 -- A clock that moves all alike
 neither-test : (a b : Bool) → not a && not b ≡ true → (a ≡ false) × (b ≡ false)
-neither-test true b e = never e
-neither-test false true e = never e
-neither-test false false e = (refl, refl)
+neither-test a b e = let tests = both (not a) (not b) e in (not-true a (tests .0), not-true b (tests .1))
 
 module _ (level : Bool) (common : Common) (alike : movesAlike level common ≡ true) where
   -- no PHY acts

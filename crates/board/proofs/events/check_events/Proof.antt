@@ -77,23 +77,28 @@ refusal-requires : tie.Need-refusal-requires Inv-loop μ-loop
 refusal-requires c κs = search needs
 
 -- what was found of the record of this turn
-finding : (c : tie.After-judge-event Inv-loop μ-loop) → c .judge-event .result ≡ recordOf (faultBy (c .before .before .before .before .before .before .addresses-of .result) (c .before .before .before .before .before .places-of .result) (c .before .before .before .before .before .before .before .before .before .before .args .events .now) (c .before .before .before .before .before .before .before .before .before .before .args .last) (c .before .before .before .before .loop .k))
-finding c =
-    let turn = c .before .before .before .before in
-    let args = turn .before .before .before .before .before .before .args in
-    let there = c .before .has-address .ensures ∙ ap (isAmong (turn .before .before .addresses-of .result) (turn .before .places-of .result)) (c .before .before .address-of .ensures) in
-    c .judge-event .ensures ∙ ap (λ t. recordOf (eventFaultAs t (args .events .now) (args .last) (turn .loop .k))) there
+module _ (c : tie.After-judge-event Inv-loop μ-loop) where
+  abbrev turn : tie.At-loop Inv-loop μ-loop
+  turn = c .before .before .before .before
+
+  abbrev start : tie.Start Inv-loop μ-loop
+  start = turn .before .before .before .before .before .before
+
+  abbrev fault : ℕ → ℕ
+  fault = faultBy (turn .before .before .addresses-of .result) (turn .before .places-of .result) (start .args .events .now) (start .args .last)
+
+  finding : c .judge-event .result ≡ recordOf (fault (turn .loop .k))
+  finding =
+      let there = c .before .has-address .ensures ∙ ap (isAmong (turn .before .before .addresses-of .result) (turn .before .places-of .result)) (c .before .before .address-of .ensures) in
+      c .judge-event .ensures ∙ ap (λ t. recordOf (eventFaultAs t (start .args .events .now) (start .args .last) (turn .loop .k))) there
 
 returns-3 : tie.Need-returns-3 Inv-loop μ-loop
 returns-3 c =
     let judged = c .before .before .before in
-    let turn = judged .before .before .before .before in
-    let args = turn .before .before .before .before .before .before .args in
-    let fault = faultBy (turn .before .before .addresses-of .result) (turn .before .places-of .result) (args .events .now) (args .last) in
-    let k = turn .loop .k in
-    let found = bad-fails (fault k) _ (sym (finding judged) ∙ c .before .enum-told2 .given .1) in
+    let k = turn judged .loop .k in
+    let found = bad-fails (fault judged k) _ (sym (finding judged) ∙ c .before .enum-told2 .given .1) in
     let number = c .refusal .ensures ∙ ap refusalOf (c .before .enum-told2 .given .1) ∙ found .2 in
-    rw number (sym (on-board (turn .before) ∙ turn .loop .inv .2 ∙ stop fault _ _ k (search needs) (λ none. omega (arith, found .1, none)) ∙ ap (λ f. Refused f k) (found .1)))
+    rw number (sym (on-board (turn judged .before) ∙ turn judged .loop .inv .2 ∙ stop (fault judged) _ _ k (search needs) (λ none. omega (arith, found .1, none)) ∙ ap (λ f. Refused f k) (found .1)))
 
 clock-of-requires : tie.Need-clock-of-requires Inv-loop μ-loop
 clock-of-requires c κs = search needs
@@ -107,12 +112,9 @@ loop-less c = search needs
 loop-again : tie.Need-loop-again Inv-loop μ-loop
 loop-again c =
     let judged = c .before .before .before in
-    let turn = judged .before .before .before .before in
-    let args = turn .before .before .before .before .before .before .args in
-    let fault = faultBy (turn .before .before .addresses-of .result) (turn .before .places-of .result) (args .events .now) (args .last) in
-    let k = turn .loop .k in
-    let found = good-passes (fault k) (sym (finding judged) ∙ c .before .enum-told .given .1) in
-    (search needs, rw add-one (c .clock-of .ensures), turn .loop .inv .2 ∙ next fault _ _ k (search needs) found)
+    let k = turn judged .loop .k in
+    let found = good-passes (fault judged k) (sym (finding judged) ∙ c .before .enum-told .given .1) in
+    (search needs, rw add-one (c .clock-of .ensures), turn judged .loop .inv .2 ∙ next (fault judged) _ _ k (search needs) found)
 
 returns-4 : tie.Need-returns-4 Inv-loop μ-loop
 returns-4 c = sym (on-board (c .before .before) ∙ c .before .loop .inv .2 ∙ finish _ _ _ _ (c .loop-test .left))

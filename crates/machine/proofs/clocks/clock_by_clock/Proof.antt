@@ -1,13 +1,13 @@
 -- Clock by clock: the specified PHYs are the board's with their lines put back as they stand, and the log has its records. A clock moves the common follower, or goes line by line.
 use Prim.Native.Nat.{suc, _+_, _*_, _-_, _≤_, _<_}
 use mathlib.Core.Path.{_≡_, refl, sym, ap, ap₂, subst, _∙_}
-use mathlib.Core.Bool.{Bool, true, false, not}
 use mathlib.Core.List.{List, map}
 use native.Mathlib.Omega.{arith}
 use native.Mathlib.Numerals.{add-one}
 use borrow.Rule.Slice.PartMut.{putMid}
 use mathlib.Core.Logic.{⊎-elim}
 use lib.ListN.{length, getD, set, take, length-map, length-set}
+use borrow.Author.Tests.{not-true}
 use borrow.Author.Needs.{needs}
 use Rattle.verdict.specs.File.{byteAt}
 use Rattle.verdict.proofs.Outputs.{pieced}
@@ -146,10 +146,6 @@ sampled c =
 -- a line that is passed stands in one of the places
 small : (c : tie.In-loop2 Inv-loop2 μ-loop2 Inv-loop μ-loop) → c .before .loop2 .i < 32
 small c = omega (arith, c .loop2-test .taken, known (start (at (written (c .before)))) .sound .at-most)
-
-not-true : (b : Bool) → not b ≡ true → b ≡ false
-not-true true e = cc
-not-true false e = refl
 
 happen-until-requires : tie.Need-happen-until-requires Inv-loop2 μ-loop2 Inv-loop μ-loop
 happen-until-requires c κs = known (c .before .before .before) .sound .at-most
