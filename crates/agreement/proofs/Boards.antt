@@ -1,5 +1,5 @@
 -- The PHYs of a sound board that hunts wait for a frame with nothing captured, and at most one answers a header.
-use Prim.Native.Nat.{ℕ, _≤_, _<_, min}
+use Prim.Native.Nat.{ℕ, _<_}
 use mathlib.Core.Path.{_≡_, refl, ap, sym, _∙_}
 use mathlib.Core.Bool.{Bool, true, false, not, _||_}
 use mathlib.Core.List.{List}
@@ -17,11 +17,11 @@ use Rattle.wire.specs.declared.Follower.the-variants.{Hunting}
 use Rattle.phy.specs.declared.Phy.{Phy}
 use Rattle.phy.specs.Abilities.{one}
 use Rattle.phy.specs.Record.{every}
-use Rattle.phy.specs.Sound.{standsOutside, statusStands, inOwnRead, capturedSound, phySound, nowhere}
+use Rattle.phy.specs.Sound.{standsOutside, statusStands, inOwnRead, phySound, nowhere}
 use Rattle.phy.specs.Typed.{Typed, Steady, StatusFixed}
 use Rattle.phy.specs.Clock.{phyCore}
 use Rattle.phy.proofs.Every.{every-each}
-use Rattle.phy.proofs.Clauses.{Clauses, sound-clauses}
+use Rattle.phy.proofs.Clauses.{sound-clauses}
 use Rattle.board.specs.declared.Board.{Board}
 use Rattle.board.specs.Check.{placeAt, checked}
 use Rattle.board.specs.Typed.{TypedBoard}

@@ -1,5 +1,5 @@
 -- Demand 3, told of the definitions that the promises cite: the agreement over any party, at PHYs, over the bytes of list and log.
-use Prim.Native.Nat.{ℕ, zero, suc, _*_, _-_, _%_, _≤_, _<_}
+use Prim.Native.Nat.{ℕ, _*_, _-_, _%_, _≤_, _<_}
 use mathlib.Core.Path.{_≡_, refl, ap, sym, _∙_}
 use mathlib.Core.List.{List, [], _∷_, map}
 use native.Mathlib.Omega.{arith}

@@ -7,7 +7,6 @@ use crate::record::Record;
 use crate::sound;
 use phy::Phy;
 use verdict::Verdict;
-use wire::Follower;
 ghost use mathlib.Core.Path.{_≡_};
 ghost use Prim.Native.Nat.{_+_, _*_, _≤_};
 ghost use lib.ListN.{length};
@@ -37,16 +36,8 @@ fn phy_at(file: &[u8], k: usize) -> Phy
     let low = verdict::word_at(file, at + 4);
     let defaults = words_at(file, at + 6);
     let masks = words_at(file, at + 70);
-    Phy {
-        address: file[at],
-        implemented: high as u32 * 65536 + low as u32,
-        defaults,
-        masks,
-        registers: defaults,
-        link: false,
-        follower: Follower::Hunting(0),
-        captured: 0,
-    }
+    let implemented = high as u32 * 65536 + low as u32;
+    Phy::fresh(file[at], implemented, defaults, masks)
 }
 
 // Whether an earlier record has the address of the record at index k.

@@ -196,16 +196,8 @@ fn is_blank(phy: Phy) -> bool
 pub(crate) fn blank() -> Phy
     ensures { λ r. ⌜ r ≡ blank ⌝ }
 {
-    Phy {
-        address: 0,
-        implemented: 0,
-        defaults: [0; 32],
-        masks: [0; 32],
-        registers: [0; 32],
-        link: false,
-        follower: Follower::Hunting(0),
-        captured: 0,
-    }
+    let words = [0; 32];
+    Phy::fresh(0, 0, words, words)
 }
 
 // Whether a place is as it should be: blank where it is unused, else a PHY with a good record that is sound. `used` is

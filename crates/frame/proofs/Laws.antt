@@ -1,7 +1,7 @@
 -- What document 01 says of lists, steps, answers and parts beside the promises.
 use Prim.Native.Nat.{ℕ, _+_, _*_, _≤_, _<_}
-use mathlib.Core.Path.{_≡_, refl, ap, ap₂, sym, _∙_}
-use mathlib.Core.Bool.{Bool, true, false, cond}
+use mathlib.Core.Path.{_≡_, refl, ap, sym, _∙_}
+use mathlib.Core.Bool.{Bool, true, false}
 use mathlib.Core.List.{List, map}
 use native.Mathlib.Omega.{arith}
 use native.Mathlib.Numerals.{add-one}
@@ -17,10 +17,10 @@ use Rattle.verdict.proofs.Lists.{tabulate-ext, map-tabulate, length-pieces, get
 use Rattle.verdict.proofs.Outputs.{writes-unique}
 use Rattle.frame.specs.declared.list.Transaction.{Transaction}
 use Rattle.frame.specs.Frame.{clocks}
-use Rattle.frame.specs.List.{listRecord, mostTransactions, isRead, transactionAt, recordFault, listVerdict, transactions}
+use Rattle.frame.specs.List.{listRecord, mostTransactions, isRead, transactionAt, recordFault, listVerdict}
 use Rattle.frame.specs.Steps.{stepsOf, stepAt, translation, Translated}
 use Rattle.frame.specs.Log.{levelAt, levels, logPart, PartOf}
-use Rattle.frame.specs.Answers.{answered, sent, answerTo, readAnswer, turnaroundIn, wordIn, answerIn, answersIn, Decoded}
+use Rattle.frame.specs.Answers.{answerIn, answersIn, Decoded}
 use Rattle.frame.proofs.Positions.{length-steps}
 
 -- "A refusal returns its number and the record's index": a list is refused for its length, its count, or its first record at fault

@@ -1,5 +1,5 @@
 -- The list file: what a parse says of its record, and what an accepted list is.
-use Prim.Native.Nat.{ℕ, zero, suc, _+_, _*_, _-_, _≤_, _<_}
+use Prim.Native.Nat.{ℕ, zero, suc, _-_, _≤_}
 use mathlib.Core.Path.{_≡_, refl, ap, sym, _∙_}
 use mathlib.Core.List.{List, []}
 use native.Mathlib.Omega.{arith}
@@ -9,7 +9,7 @@ use Rattle.verdict.specs.declared.Verdict.the-variants.{Done}
 use Rattle.verdict.proofs.Checks.{Accepted, accepted}
 use Rattle.frame.specs.declared.list.Transaction.{Transaction}
 use Rattle.frame.specs.declared.list.Parse.{Parse}
-use Rattle.frame.specs.declared.list.Parse.the-variants.{Good, Bad}
+use Rattle.frame.specs.declared.list.Parse.the-variants.{Bad}
 use Rattle.frame.specs.declared.answer.Answer.{Answer}
 use Rattle.frame.specs.Answers.{answerRecord, answerBytes, putIn}
 use Rattle.frame.specs.List.{listRecord, mostTransactions, recordFault, parseOf, parsed, refusalOf, transactionAt, listVerdict}

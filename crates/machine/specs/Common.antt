@@ -1,5 +1,5 @@
 -- What all lines have in common: in most clocks the followers of all PHYs are the same, and then one follower tells for all lines.
-use Prim.Native.Nat.{ℕ, _+_, _-_}
+use Prim.Native.Nat.{_+_, _-_}
 use mathlib.Core.Bool.{Bool, true, false, not, _&&_, cond}
 use mathlib.Core.List.{List, map}
 use lib.Dec.{eqb, ltb}

@@ -1,5 +1,5 @@
 -- Document 01, "Records": "Log, 5 bytes per clock: flags (1 level, 2 station drives, 4 two or more parties drive) and a 4-byte mask with bit a set when the PHY at address a drives."
-use Prim.Native.Nat.{ℕ, zero, suc, _+_, _*_, _/_, _%_, _^_}
+use Prim.Native.Nat.{ℕ, _+_, _*_, _/_, _%_, _^_}
 use mathlib.Core.Bool.{Bool, true, false}
 use mathlib.Core.List.{List, [], _∷_}
 use lib.Dec.{leb}

@@ -3,7 +3,7 @@ ghost use mathlib.Core.Path.{_≡_};
 ghost use Prim.Native.Nat.{_<_};
 ghost use Rattle.phy.specs.Fields.{registerOf};
 ghost use Rattle.phy.specs.Control.{reset, writeControl};
-ghost use Rattle.phy.specs.Registers.{implements, inReset, masked, writeOrdinary, readStatus, afterRead, writeBy, afterWrite};
+ghost use Rattle.phy.specs.Registers.{implements, inReset, masked, writeOrdinary, afterRead, afterWrite};
 use crate::Phy;
 use crate::control::Control;
 use crate::status::Status;

@@ -1,8 +1,8 @@
 -- Each field is read where `phyAt` says.
-use Rattle.board.specs.Load.{phyAt}
 use borrow.Author.Needs.{needs}
 use Rattle.board.proofs.file.phy_at.Statement.{statement}
 use Rattle.board.proofs.file.phy_at.Tie as tie
+use Rattle.board.specs.Load.{phyAt}
 
 mul-at : tie.Need-mul-at
 mul-at c = search needs
@@ -31,24 +31,34 @@ add-words-at-2 c = search needs
 words-at-requires-2 : tie.Need-words-at-requires-2
 words-at-requires-2 c κs = search needs
 
-shared-slice-read-t10 : tie.Need-shared-slice-read-t10
-shared-slice-read-t10 c = search needs
+cast-implemented : tie.Need-cast-implemented
+cast-implemented c = search needs
 
-cast-t11 : tie.Need-cast-t11
-cast-t11 c = search needs
+mul-implemented : tie.Need-mul-implemented
+mul-implemented c = search needs
 
-mul-t12 : tie.Need-mul-t12
-mul-t12 c = search needs
+cast-implemented-2 : tie.Need-cast-implemented-2
+cast-implemented-2 c = search needs
 
-cast-t13 : tie.Need-cast-t13
-cast-t13 c = search needs
+add-implemented : tie.Need-add-implemented
+add-implemented c = search needs
 
-add-t14 : tie.Need-add-t14
-add-t14 c = search needs
+shared-slice-read-fresh : tie.Need-shared-slice-read-fresh
+shared-slice-read-fresh c = search needs
+
+fresh-requires : tie.Need-fresh-requires
+fresh-requires c κs = search needs
 
 returns : tie.Need-returns
 unfolding phyAt
-returns c = rw (c .before .before .before .before .word-at .ensures, c .before .before .before .word-at2 .ensures, c .before .before .words-at .ensures, c .before .words-at2 .ensures)
+returns c =
+    rw (
+      c .fresh .ensures,
+      c .before .before .before .before .before .word-at .ensures,
+      c .before .before .before .before .word-at2 .ensures,
+      c .before .before .before .words-at .ensures,
+      c .before .before .words-at2 .ensures,
+    )
 
 pub phy-at-spec : {M : Type 1} → statement M
 phy-at-spec =
@@ -63,9 +73,10 @@ phy-at-spec =
     words-at-requires
     add-words-at-2
     words-at-requires-2
-    shared-slice-read-t10
-    cast-t11
-    mul-t12
-    cast-t13
-    add-t14
+    cast-implemented
+    mul-implemented
+    cast-implemented-2
+    add-implemented
+    shared-slice-read-fresh
+    fresh-requires
     returns)

@@ -3,7 +3,6 @@ use Rattle.machine.specs.Common.{commonFollows}
 use borrow.Author.Needs.{needs}
 use Rattle.machine.proofs.common.Common.follows.Statement.{statement}
 use Rattle.machine.proofs.common.Common.follows.Tie as tie
-use Rattle.wire.proofs.Follower.follow.Reads as follow-reads
 
 follow-requires : tie.Need-follow-requires
 follow-requires c κs = search needs

@@ -3,7 +3,6 @@ use Rattle.machine.specs.Common.{commonWith}
 use borrow.Author.Needs.{needs}
 use Rattle.machine.proofs.common.Common.with.Statement.{statement}
 use Rattle.machine.proofs.common.Common.with.Tie as tie
-use Rattle.machine.proofs.common.same_follower.Reads as same-follower-reads
 
 same-follower-requires : tie.Need-same-follower-requires
 same-follower-requires c κs = search needs
