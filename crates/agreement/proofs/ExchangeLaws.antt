@@ -24,6 +24,7 @@ use Rattle.board.specs.Load.{phyAt, boardVerdict, boardOf, loadedBy, loaded}
 use Rattle.board.specs.Check.{checked}
 use Rattle.board.specs.Typed.{TypedBoard}
 use Rattle.board.proofs.LoadSound.{load-sound}
+use Rattle.board.proofs.LoadTyped.{load-typed}
 use Rattle.machine.specs.declared.Outcome.{Outcome}
 use Rattle.machine.specs.Outcome.{outcomeOf, physOf, withPhys, boardAfter}
 use Rattle.machine.specs.Plain.{planning, answersOfPlain, physAfterPlain, Planned}
@@ -148,9 +149,9 @@ loaded-hunts file = go (boardVerdict file)
         (all-tabulate Hunts n (phyAt file) (λ k within. record { ones = 0; hunting = refl }))
     go (Refused c k) = tt
 
-pub loaded-ready : (file : List ℕ) → TypedBoard (loaded file .board) → ReadyBoard (loaded file .board .count) (loaded file .board)
-loaded-ready file typed = record { sound = record { typed = typed; passes = load-sound file }; hunt = loaded-hunts file }
+pub loaded-ready : (file : List ℕ) → ((i : ℕ) → byteAt file i < 256) → ReadyBoard (loaded file .board .count) (loaded file .board)
+loaded-ready file bytes = record { sound = record { typed = load-typed file bytes; passes = load-sound file }; hunt = loaded-hunts file }
 
-module _ (file list events out : List ℕ) (typed : TypedBoard (loaded file .board)) (bytes : (i : ℕ) → byteAt list i < 256) where
+module _ (file list events out : List ℕ) (file-bytes : (i : ℕ) → byteAt file i < 256) (bytes : (i : ℕ) → byteAt list i < 256) where
   pub loaded-agrees : {r s : Outcome} {out₁ out₂ : List ℕ} → Exchanged (loaded file .board) list events out r out₁ → Planned (loaded file .board) list events out s out₂ → SameAsPlain r s out₁ out₂
-  loaded-agrees p q = exchange-agrees (loaded file .board) list events out typed bytes (loaded-hunts file) p q
+  loaded-agrees p q = exchange-agrees (loaded file .board) list events out (load-typed file file-bytes) bytes (loaded-hunts file) p q

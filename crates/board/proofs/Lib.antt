@@ -2,4 +2,5 @@ pub mod Records
 pub mod Loading
 pub mod Soundness
 pub mod LoadSound
+pub mod LoadTyped
 pub mod Unique

@@ -30,7 +30,7 @@ unfolding isBlank blank every
 blank-blank = refl
 
 module _ (file : List ℕ) (n : ℕ) (done : boardVerdict file ≡ Done n) where
-  fits : n ≤ places
+  pub fits : n ≤ places
   fits = accepted boardRecord places (recordFault file) file n done .allowed
 
   -- each PHY is as its record says: hunting with 0 ones, link down, every register at default
@@ -38,7 +38,7 @@ module _ (file : List ℕ) (n : ℕ) (done : boardVerdict file ≡ Done n) where
   unfolding boardOf
   place-fresh k l = loaded-at file (replicate places blank) n k l
 
-  place-blank : (k : ℕ) → n ≤ k → k < places → placeAt (boardOf n (phyAt file)) k ≡ blank
+  pub place-blank : (k : ℕ) → n ≤ k → k < places → placeAt (boardOf n (phyAt file)) k ≡ blank
   unfolding boardOf
   place-blank k h l =
       let front = tabulate n (phyAt file) in
