@@ -29,7 +29,8 @@ use Rattle.machine.specs.Outcome.{physOf, withPhys}
 use Rattle.machine.specs.Events.{happens}
 use Rattle.machine.specs.Acts.{happenedFrom}
 use Rattle.machine.specs.Log.{clockRecord}
-use Rattle.machine.specs.Run.{addressesOf, partyWith, stationDrives, atStart, physAfterRun}
+use Rattle.board.specs.Record.{addressesOf}
+use Rattle.machine.specs.Run.{partyWith, stationDrives, atStart, physAfterRun}
 use Rattle.machine.specs.Lines.{lineOf, heardStation, heardFrom, recordOf, joinedBoard}
 use Rattle.machine.specs.Clocks.{Clocked}
 use Rattle.machine.proofs.Places.{with-own, phys-of-with, with-with}

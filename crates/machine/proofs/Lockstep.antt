@@ -23,7 +23,8 @@ use Rattle.phy.proofs.Effects.{afterHeader-effect, afterFrame-effect}
 use Rattle.phy.proofs.Keeping.{keeps-address}
 use Rattle.machine.specs.Events.{happens}
 use Rattle.machine.specs.Log.{clockRecord}
-use Rattle.machine.specs.Run.{addressesOf, partyWith, stationDrives}
+use Rattle.board.specs.Record.{addressesOf}
+use Rattle.machine.specs.Run.{partyWith, stationDrives}
 use Rattle.machine.proofs.EachPlace.{leaves-closed, each-leaves, runs-each}
 use Rattle.machine.proofs.HappensEffect.{happens-effect}
 

@@ -22,7 +22,7 @@ use Rattle.phy.specs.Clock.{actsIn as Phy·actsIn}
 use Rattle.machine.specs.declared.line.Line.{Line}
 use Rattle.machine.specs.declared.hear.Heard.{Heard}
 use Rattle.machine.specs.Log.{isDriving, marked, maskFrom, clockRecord}
-use Rattle.machine.specs.Run.{addressesOf}
+use Rattle.board.specs.Record.{addressesOf}
 use Rattle.machine.specs.Lines.{lineOf, wordless, lineDrives, isOwn, actsIn, lineActs, captures, lineFollows, onto, heardStation, hearsDrive, hears, heardFrom, recordOf}
 
 -- Of one PHY

@@ -26,7 +26,8 @@ use Rattle.board.specs.declared.Board.{Board}
 use Rattle.machine.specs.declared.Outcome.{Outcome}
 use Rattle.machine.specs.Outcome.{physOf}
 use Rattle.machine.specs.Log.{isDriving, flagsOf, maskFrom, clockRecord}
-use Rattle.machine.specs.Run.{addressesOf, partyWith, stationDrives, atStart, physAfterRun, logOfRun, Ran}
+use Rattle.board.specs.Record.{addressesOf}
+use Rattle.machine.specs.Run.{partyWith, stationDrives, atStart, physAfterRun, logOfRun, Ran}
 use Rattle.machine.proofs.Lockstep.{physAfter, stationIn, drivesIn, log-by-clock}
 use Rattle.machine.proofs.Laws.{hands-back-unique}
 use Rattle.machine.proofs.HappensEffect.{happens-effect}

@@ -19,7 +19,8 @@ use Rattle.machine.specs.Outcome.{physOf, withPhys, boardAfter}
 use Rattle.machine.specs.Events.{happens}
 use Rattle.machine.specs.Parts.{eventsUpTo, eventsPast}
 use Rattle.machine.specs.Log.{clockRecord}
-use Rattle.machine.specs.Run.{addressesOf, partyWith, stationDrives, atStart, running, physAfterRun, logOfRun, Ran}
+use Rattle.board.specs.Record.{addressesOf}
+use Rattle.machine.specs.Run.{partyWith, stationDrives, atStart, running, physAfterRun, logOfRun, Ran}
 use Rattle.machine.proofs.Places.{phys-of-with, with-with}
 use Rattle.machine.proofs.Lockstep.{clock-address, happens-address}
 use Rattle.machine.proofs.EachPlace.{Each, Leaves, leaves-closed, each-leaves, each-length, run-changes}

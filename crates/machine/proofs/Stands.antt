@@ -25,7 +25,7 @@ use Rattle.machine.specs.Outcome.{physOf, withPhys}
 use Rattle.machine.specs.Events.{happens}
 use Rattle.machine.specs.Acts.{happenedFrom}
 use Rattle.machine.specs.Log.{clockRecord}
-use Rattle.machine.specs.Run.{addressesOf}
+use Rattle.board.specs.Record.{addressesOf}
 use Rattle.machine.specs.Lines.{lineOf, noLine, onto, lineActs, lineFollows, joinedBoard, isDue}
 use Rattle.machine.proofs.Places.{phys-of-with, behind-with}
 use Rattle.machine.proofs.Happenings.{Rising, Split, Leaves, happened-stop, happened-finish, one-clock}

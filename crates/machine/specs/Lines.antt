@@ -17,7 +17,7 @@ use Rattle.phy.specs.declared.Phy.{Phy}
 use Rattle.phy.specs.Words.{setBit}
 use Rattle.phy.specs.Fields.{withLine}
 use Rattle.phy.specs.Sound.{nowhere}
-use Rattle.phy.specs.Clock.{fresh, enough, drives}
+use Rattle.phy.specs.Clock.{fresh, enough, takes, drives}
 use Rattle.verdict.specs.File.{records}
 use Rattle.verdict.specs.Output.{tabulate}
 use Rattle.board.specs.Events.{eventRecord, eventClock}
@@ -42,16 +42,17 @@ lineOf phy =
 abbrev pub onto : Line → Phy → Phy
 onto line phy = withLine (line .follower) (line .captured) phy
 
--- what the line says of its PHY: what it drives in the next clock. Its words have no part in that: any others serve
+-- a PHY with a line. Its words have no part in whom a frame is for and what is driven: any others serve
 abbrev pub wordless : Line → Phy
 wordless line = onto line (fresh (line .address) (line .implemented) (replicate 32 0) (replicate 32 0))
 
+-- what the PHY drives in the next clock
 abbrev pub lineDrives : Line → Drive
 lineDrives line = drives (wordless line)
 
 -- whether the next bit may end an own read's header or ends an own write: only there the whole PHY acts. Op and address are known before that bit, whatever its level
 abbrev pub isOwn : ℕ → Header → Line → Bool
-isOwn op header line = eqb (header .op) op && eqb (header .address) (line .address)
+isOwn op header line = eqb (header .op) op && takes (header .address) (wordless line)
 
 unfoldable pub actsIn : Follower → Line → Bool
 actsIn (Hunting ones) line = false

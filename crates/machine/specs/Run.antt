@@ -15,16 +15,13 @@ use Rattle.wire.specs.Wire.{Party, stationDrive, eventsAfter, runs, driven}
 use Rattle.phy.specs.declared.Phy.{Phy}
 use Rattle.phy.specs.Clock.{phyParty}
 use Rattle.board.specs.declared.Board.{Board}
+use Rattle.board.specs.Record.{addressesOf}
 use Rattle.board.specs.Check.{checked}
 use Rattle.board.specs.Events.{eventsVerdict}
 use Rattle.machine.specs.declared.Outcome.{Outcome}
 use Rattle.machine.specs.Outcome.{physOf, HandsBack}
 use Rattle.machine.specs.Events.{happens}
 use Rattle.machine.specs.Log.{clockRecord}
-
--- the addresses of PHYs, in order
-abbrev pub addressesOf : List Phy → List ℕ
-addressesOf phys = map (λ phy. phy .address) phys
 
 -- "over 4,160 clock steps": as many as the longest list has
 abbrev pub mostSteps : ℕ

@@ -4,7 +4,7 @@ ghost use Prim.Native.Nat.{_≤_};
 ghost use Rattle.phy.specs.Fields.{withLine};
 ghost use mathlib.Core.List.{map};
 ghost use Rattle.machine.specs.Common.{standing};
-ghost use Rattle.machine.specs.Lines.{lineOf, lineDrives, isOwn, lineActs, captures, lineFollows, joinedBoard};
+ghost use Rattle.machine.specs.Lines.{lineOf, wordless, lineDrives, isOwn, lineActs, captures, lineFollows, joinedBoard};
 use crate::common::Common;
 use board::Board;
 use frame::Transaction;
@@ -55,20 +55,26 @@ impl Line {
         }
     }
 
-    // What the PHY drives in the next clock. Its words have no part in that: any others serve.
+    // A PHY with this line. Its words have no part in whom a frame is for and what is driven: any others serve.
+    fn wordless(self) -> Phy
+        ensures { λ r. ⌜ r ≡ wordless self ⌝ }
+    {
+        let words = [0u16; 32];
+        self.onto(Phy::fresh(self.address, self.implemented, words, words))
+    }
+
+    // What the PHY drives in the next clock.
     pub(crate) fn drives(self) -> Drive
         ensures { λ r. ⌜ r ≡ lineDrives self ⌝ }
     {
-        let words = [0u16; 32];
-        let wordless = Phy::fresh(self.address, self.implemented, words, words);
-        self.onto(wordless).drives()
+        self.wordless().drives()
     }
 
-    // Whether an op and an address are a header's op and this PHY's address.
+    // Whether a header has this op and is for this PHY.
     fn is_own(self, op: u8, header: Header) -> bool
         ensures { λ r. ⌜ r ≡ isOwn op header self ⌝ }
     {
-        (header.op == op) & (header.address == self.address)
+        (header.op == op) & self.wordless().takes(header.address)
     }
 
     // Whether the next bit may end the header of an own read, or ends an own write: the whole PHY acts then.
