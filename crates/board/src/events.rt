@@ -2,6 +2,7 @@
 use crate::Board;
 use crate::record;
 use crate::record::Record;
+use phy::Event;
 use verdict::Verdict;
 ghost use mathlib.Core.Path.{_≡_};
 ghost use Prim.Native.Nat.{_+_, _*_, _<_, min};
@@ -59,7 +60,7 @@ fn judge_event(there: bool, events: &[u8], last: usize, k: usize, before: u16) -
 {
     let clock = clock_of(events, k);
     let code = code_of(events, k);
-    if !((1 <= code) & (code <= 7)) | !there {
+    if !((Event::LINK_UP <= code) & (code <= Event::RESET_DONE)) | !there {
         return Record::Bad(Verdict::WRONG_EVENT);
     }
     if (clock < before) | (last < clock as usize) {

@@ -85,7 +85,7 @@ impl Line {
         let Follower::Inside(seen, bits) = follower else {
             return false;
         };
-        let shifted = bits % 2147483648 * 2;
+        let shifted = bits % Follower::HALF_FRAME_VALUES * 2;
         match seen {
             Phy::BEFORE_HEADER => self.is_own(Transaction::READ, Header::of(shifted)),
             Follower::MOST_SEEN => {

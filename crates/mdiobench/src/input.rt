@@ -1,4 +1,6 @@
 // The program's inputs, of any length, each read into a buffer of one record more than document 01 allows.
+use board::Board;
+use frame::Transaction;
 ghost use mathlib.Core.Path.{_≡_};
 ghost use Prim.Native.Nat.{_+_, _%_, _≤_, _<_};
 ghost use lib.ListN.{length};
@@ -6,22 +8,28 @@ ghost use Rattle.io.specs.Counts.{Counts};
 ghost use Rattle.mdiobench.specs.Input.{standIn};
 
 // The buffers: 33 board records, 65 transactions, 257 events.
-pub(crate) fn room_for_board() -> [u8; 4422]
+const BOARD: usize = (Board::PLACES + 1) * Board::RECORD;
+
+const LIST: usize = (Transaction::MOST + 1) * Transaction::BYTES;
+
+const EVENTS: usize = (Board::MOST_EVENTS + 1) * Board::EVENT_RECORD;
+
+pub(crate) fn room_for_board() -> [u8; BOARD]
     ensures { λ r. ⌜ 4422 ≡ length r ⌝ }
 {
-    [0; 4422]
+    [0; BOARD]
 }
 
-pub(crate) fn room_for_list() -> [u8; 390]
+pub(crate) fn room_for_list() -> [u8; LIST]
     ensures { λ r. ⌜ 390 ≡ length r ⌝ }
 {
-    [0; 390]
+    [0; LIST]
 }
 
-pub(crate) fn room_for_events() -> [u8; 1028]
+pub(crate) fn room_for_events() -> [u8; EVENTS]
     ensures { λ r. ⌜ 1028 ≡ length r ⌝ }
 {
-    [0; 1028]
+    [0; EVENTS]
 }
 
 // How far `rest` bytes and `more` go past the last whole record; the sum itself need not fit.

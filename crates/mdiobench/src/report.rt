@@ -13,10 +13,12 @@ ghost use Rattle.frame.specs.List.{mostTransactions};
 ghost use Rattle.mdiobench.specs.Line.{digitOf, letterOf, answerAt, afterOrdinal};
 
 // Room for the answers to as many transactions as a list may have.
-pub(crate) fn room_for_answers() -> [u8; 384]
+const ANSWERS: usize = Transaction::MOST * Answer::BYTES;
+
+pub(crate) fn room_for_answers() -> [u8; ANSWERS]
     ensures { λ r. ⌜ 384 ≡ length r ⌝ }
 {
-    [0; 384]
+    [0; ANSWERS]
 }
 
 fn digit(value: u16) -> u8

@@ -117,9 +117,12 @@ clocked level phy = go (phy .follower) refl
     next : Follower
     next = follow (enough phy) level (phy .follower)
 
+    -- a clock in which only the follower moves
+    moves : clock level phy ≡ withLine next (phy .captured) phy → Clocked level phy
+    moves is = record { does = λ p. p; effect = nothing; captured = phy .captured; small = λ t. t .captured; is = is }
+
     go : (f : Follower) → phy .follower ≡ f → Clocked level phy
-    go (Hunting ones) now =
-        record { does = λ p. p; effect = nothing; captured = phy .captured; small = λ t. t .captured; is = clock-by level phy (Hunting ones) now }
+    go (Hunting ones) now = moves (clock-by level phy (Hunting ones) now)
     go (Inside seen bits) now = by (eqb seen 13) (eqb seen 31) (answers header phy) refl refl refl
       where
         after : ℕ
@@ -137,14 +140,7 @@ clocked level phy = go (phy .follower) refl
               small = λ t. t .registers .small (header .register);
               is = clock-by level phy (Inside seen bits) now ∙ rw (e13, own);
             }
-        by true b false e13 e31 other =
-            record {
-              does = λ p. p;
-              effect = nothing;
-              captured = phy .captured;
-              small = λ t. t .captured;
-              is = clock-by level phy (Inside seen bits) now ∙ rw (e13, other);
-            }
+        by true b false e13 e31 other = moves (clock-by level phy (Inside seen bits) now ∙ rw (e13, other))
         by false true own e13 e31 o =
             record {
               does = afterFrame (headerSeen 32 after) (after % 2 ^ 16);
@@ -153,14 +149,7 @@ clocked level phy = go (phy .follower) refl
               small = λ t. omega arith;
               is = clock-by level phy (Inside seen bits) now ∙ rw (e13, e31);
             }
-        by false false own e13 e31 o =
-            record {
-              does = λ p. p;
-              effect = nothing;
-              captured = phy .captured;
-              small = λ t. t .captured;
-              is = clock-by level phy (Inside seen bits) now ∙ rw (e13, e31);
-            }
+        by false false own e13 e31 o = moves (clock-by level phy (Inside seen bits) now ∙ rw (e13, e31))
 
 -- Of a clock
 module _ (level : Bool) (phy : Phy) where

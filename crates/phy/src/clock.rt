@@ -24,8 +24,6 @@ impl Phy {
     pub const TAIL_VALUES: u32 = 0x4_0000;
 
     const DATA_VALUES: u32 = 0x1_0000;
-    // How many values a frame has without its last bit.
-    const HALF_FRAME_VALUES: u32 = 0x8000_0000;
 
     // As a load leaves it: hunting with 0 ones, link down, registers at default.
     pub fn fresh(address: u8, implemented: u32, defaults: [u16; 32], masks: [u16; 32]) -> Phy
@@ -187,7 +185,7 @@ impl Phy {
     fn one_more(bits: u32, level: bool) -> u32
         ensures { λ r. ⌜ r ≡ oneMore bits level ⌝ }
     {
-        let shifted = bits % Phy::HALF_FRAME_VALUES * 2;
+        let shifted = bits % Follower::HALF_FRAME_VALUES * 2;
         if level { shifted + 1 } else { shifted }
     }
 

@@ -41,6 +41,8 @@ impl Follower {
     pub const MOST_ONES: u8 = 32;
     // Inside a frame at most this many bits were seen: the next one ends it.
     pub const MOST_SEEN: u8 = 31;
+    // How many values a frame has without its last bit: the bits seen, below this, have room for one more.
+    pub const HALF_FRAME_VALUES: u32 = 0x8000_0000;
 
     // What the follower is after a clock at this level, where `enough` ones let a 0 start a frame.
     pub fn follow(self, enough: u8, level: bool) -> Follower
@@ -64,7 +66,7 @@ impl Follower {
                 if seen >= Follower::MOST_SEEN {
                     return Follower::Hunting(0);
                 }
-                let next = bits % 2147483648 * 2;
+                let next = bits % Follower::HALF_FRAME_VALUES * 2;
                 if level {
                     Follower::Inside(seen + 1, next + 1)
                 } else if seen == 1 {
