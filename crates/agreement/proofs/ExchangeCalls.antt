@@ -9,11 +9,12 @@ use lib.Seq.{take-at}
 use borrow.Author.Tests.{le-ltb, eq-eqb}
 use Rattle.verdict.specs.declared.Verdict.{Verdict}
 use Rattle.verdict.specs.declared.Verdict.the-variants.{Done, Refused}
-use Rattle.verdict.specs.Refusal.{andThen}
+use Rattle.verdict.specs.Refusal.{wrongStep, andThen}
 use Rattle.verdict.specs.Bits.{bits}
+use Rattle.verdict.specs.File.{byteFault}
 use Rattle.verdict.specs.Lists.{All}
 use Rattle.verdict.specs.Output.{join, written, roomFor, Writes}
-use Rattle.verdict.proofs.Checks.{done-by}
+use Rattle.verdict.proofs.Checks.{done-by, bytes-done}
 use Rattle.verdict.proofs.Elements.{all-append, all-map-of, all-or}
 use Rattle.frame.specs.declared.list.Transaction.{Transaction}
 use Rattle.frame.specs.Frame.{preamble, clocks, logRecord, logPartBytes}
@@ -27,9 +28,9 @@ use Rattle.board.specs.Check.{checked}
 use Rattle.board.specs.Events.{eventsVerdict}
 use Rattle.machine.specs.declared.Outcome.{Outcome}
 use Rattle.machine.specs.Outcome.{outcomeOf, withPhys}
-use Rattle.machine.specs.Run.{mostSteps, stepFault, stepsVerdict, running, logOfRun, Ran}
+use Rattle.machine.specs.Run.{mostSteps, largestStep, stepsVerdict, running, logOfRun, Ran}
 use Rattle.machine.specs.Plain.{planning}
-use Rattle.machine.proofs.Accepts.{steps-done, room-done}
+use Rattle.machine.proofs.Accepts.{room-done}
 use Rattle.machine.proofs.RunLaws.{log-length}
 use Rattle.agreement.specs.Exchange.{answersOfExchange, physAfterExchange, Exchanged, Ready}
 
@@ -66,7 +67,7 @@ four-steps t =
     let last = last-rows (isRead t) (t .«data») in
     all-join OneOfFour (table preamble t) (same-steps 32 1 (omega arith), ((omega arith, (omega arith, tt)), (op-steps (isRead t), (bit-steps 5 (t .address), (bit-steps 5 (t .register), last)))))
 
-pub step-of-four : (list : List ℕ) (k : ℕ) → stepFault (translation list) k ≡ 0
+pub step-of-four : (list : List ℕ) (k : ℕ) → byteFault largestStep wrongStep (translation list) k ≡ 0
 step-of-four list k =
     let small = all-or OneOfFour (translation list) k 0 (omega arith) (all-join OneOfFour (map stepsOf (transactions list)) (all-map-of (All OneOfFour) stepsOf (transactions list) four-steps)) in
     rw (le-ltb 3 _ small)
@@ -108,7 +109,7 @@ module _ (list : List ℕ) (n : ℕ) (accepted : listVerdict list ≡ Done n) wh
   -- its steps pass
   pub steps-accepted : stepsVerdict (translation list) ≡ Done (n * clocks)
   steps-accepted =
-      steps-done (translation list) (omega (arith, few, steps-counted)) (λ k h. step-of-four list k)
+      bytes-done mostSteps largestStep wrongStep (translation list) (omega (arith, few, steps-counted)) (λ k h. step-of-four list k)
       ∙ ap Done steps-counted
 
   -- its run is refused for the board and the events alone

@@ -11,10 +11,10 @@ use lib.Seq.{getD-append-add}
 use borrow.Author.Tests.{le-ltb, lt-ltb, le-leb, lt-leb, ltb-false}
 use Rattle.verdict.specs.declared.Verdict.the-variants.{Done}
 use Rattle.verdict.specs.Refusal.{wrongStep, _when_}
-use Rattle.verdict.specs.File.{byteAt, records}
+use Rattle.verdict.specs.File.{byteAt, records, byteFault}
 use Rattle.verdict.specs.Output.{tabulate, join}
 use Rattle.verdict.proofs.Lists.{tabulate-ext, tabulate-cons, length-pieces, getD-pieces}
-use Rattle.verdict.proofs.Checks.{Accepted, accepted, accepts, done-by}
+use Rattle.verdict.proofs.Checks.{Accepted, accepted, accepts, done-by, passed-bytes, bytes-done}
 use Rattle.frame.specs.Frame.{logRecord}
 use Rattle.phy.specs.declared.Phy.{Phy}
 use Rattle.phy.specs.Sound.{nowhere}
@@ -27,10 +27,10 @@ use Rattle.board.specs.Events.{eventRecord, mostEvents, eventClock, eventAddres
 use Rattle.machine.specs.declared.Outcome.{Outcome}
 use Rattle.machine.specs.Outcome.{withPhys}
 use Rattle.machine.specs.Parts.{eventBytes, picked, eventsUpTo, eventsPast}
-use Rattle.machine.specs.Run.{stepFault, stepsVerdict, running, physAfterRun, Ran}
+use Rattle.machine.specs.Run.{mostSteps, largestStep, stepsVerdict, running, physAfterRun, Ran}
 use Rattle.machine.proofs.Places.{at-replaced}
 use Rattle.machine.proofs.Happenings.{Rising, Split, split-start, no-event-fault, accepted-rising, one-clock, quiet-clocks}
-use Rattle.machine.proofs.Accepts.{passed-steps, steps-done, room-done}
+use Rattle.machine.proofs.Accepts.{room-done}
 use Rattle.machine.proofs.SoundBoards.{run-sound}
 use Rattle.machine.proofs.RunParts.{run-keeps-addresses, board-left, same-board, same-log}
 
@@ -187,13 +187,13 @@ run-on-board board typed steps events address =
     ∙ each .is (getD (board .phys) i nowhere)))
 
 -- the steps of each part pass if all do
-module _ (a b : List ℕ) (each : (i : ℕ) → i < length (a ++ b) → stepFault (a ++ b) i ≡ 0) where
-  first-steps : (i : ℕ) → i < length a → stepFault a i ≡ 0
+module _ (a b : List ℕ) (each : (i : ℕ) → i < length (a ++ b) → byteFault largestStep wrongStep (a ++ b) i ≡ 0) where
+  first-steps : (i : ℕ) → i < length a → byteFault largestStep wrongStep a i ≡ 0
   first-steps i h =
       ap (λ step. wrongStep when ltb 3 step) (sym (List·getD-append a b 0 i h))
       ∙ each i (omega (arith, length-append a b))
 
-  second-steps : (i : ℕ) → i < length b → stepFault b i ≡ 0
+  second-steps : (i : ℕ) → i < length b → byteFault largestStep wrongStep b i ≡ 0
   second-steps i h =
       ap (λ step. wrongStep when ltb 3 step) (sym (getD-append-add a b i 0))
       ∙ each (length a + i) (omega (arith, length-append a b))
@@ -240,15 +240,15 @@ module _ (board : Board) (a b events : List ℕ) where
       let on-board = done-by (checked board) _ done in
       let on-steps = done-by (stepsVerdict (a ++ b)) _ (on-board .rest) in
       let on-events = done-by (eventsVerdict board events (on-steps .count)) _ (on-steps .rest) in
-      let pass = passed-steps (a ++ b) (on-steps .count) (on-steps .passes) in
+      let pass = passed-bytes mostSteps largestStep wrongStep (a ++ b) (on-steps .count) (on-steps .passes) in
       let long = length-append a b in
       let all-events = ap (eventsVerdict board events) (sym (pass .count ∙ long)) ∙ on-events .passes in
       let still-sound = run-sound (record { typed = typed; passes = on-board .passes }) early a in
       record {
         first = λ out₁ room.
-            rw (on-board .passes, steps-done a (omega (arith, pass .few)) (first-steps a b (pass .each)), first-events (on-events .count) all-events, room-done out₁ (length a * logRecord) room);
+            rw (on-board .passes, bytes-done mostSteps largestStep wrongStep a (omega (arith, pass .few)) (first-steps a b (pass .each)), first-events (on-events .count) all-events, room-done out₁ (length a * logRecord) room);
         second = λ out₂ room.
-            rw (still-sound .passes, steps-done b (omega (arith, pass .few)) (second-steps a b (pass .each)), second-events (on-events .count) all-events typed, room-done out₂ (length b * logRecord) room);
+            rw (still-sound .passes, bytes-done mostSteps largestStep wrongStep b (omega (arith, pass .few)) (second-steps a b (pass .each)), second-events (on-events .count) all-events typed, room-done out₂ (length b * logRecord) room);
       }
 
   -- By what `run` promises: where the whole succeeds and there is room for their logs, both parts succeed; so a run may be stopped anywhere and gone on with

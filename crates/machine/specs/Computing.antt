@@ -1,7 +1,7 @@
 -- One name that opens every definition of the two machines, so that a worked run computes: `unfolding computing`.
 use Prim.Native.Nat.{ℕ}
 use Rattle.verdict.specs.Bits.{bits, shiftIn}
-use Rattle.verdict.specs.File.{inOrder, fileVerdict}
+use Rattle.verdict.specs.File.{inOrder, fileVerdict, bytesVerdict}
 use Rattle.verdict.specs.Output.{tabulate, join}
 use Rattle.frame.specs.List as list
 use Rattle.frame.specs.List.{transactionAt}
@@ -19,8 +19,7 @@ use Rattle.board.specs.Check.{checked, placeSound, recordPasses}
 use Rattle.board.specs.Events.{eventFault}
 use Rattle.machine.specs.Events.{happensFrom}
 use Rattle.machine.specs.Log.{clockRecord, maskFrom}
-use Rattle.machine.specs.Run.{stepsVerdict}
 
 unfoldable pub computing : ℕ
-unfolding bits shiftIn inOrder fileVerdict tabulate join list.recordFault transactionAt stepsOf levelAt logPart answerIn runs driven quiet plainAnswers plainParties phy.computing any every othersImplemented registerSetRight unimplementedZero wordsRight derivedControl defaultsRight inOwnRead blank controlSound followerSound isBlank othersAtDefault phySound registersStand standsOutside faultOf hasAddress boardOf loaded phyAt recordFault usedBefore wordsAt checked placeSound recordPasses eventFault happensFrom clockRecord maskFrom stepsVerdict
+unfolding bits shiftIn inOrder fileVerdict tabulate join list.recordFault transactionAt stepsOf levelAt logPart answerIn runs driven quiet plainAnswers plainParties phy.computing any every othersImplemented registerSetRight unimplementedZero wordsRight derivedControl defaultsRight inOwnRead blank controlSound followerSound isBlank othersAtDefault phySound registersStand standsOutside faultOf hasAddress boardOf loaded phyAt recordFault usedBefore wordsAt checked placeSound recordPasses eventFault happensFrom clockRecord maskFrom bytesVerdict
 computing = 0

@@ -1,12 +1,9 @@
 -- Document 01, "Clock steps": "What each party drives in a clock depends on its state before that clock. (..) Then all sample it. A run takes any steps, so it may show contention."
 use Prim.Native.Nat.{ℕ, _*_}
 use mathlib.Core.List.{List, map}
-use lib.ListN.{length}
-use lib.Dec.{ltb}
 use Rattle.verdict.specs.declared.Verdict.{Verdict}
-use Rattle.verdict.specs.declared.Verdict.the-variants.{Done}
-use Rattle.verdict.specs.Refusal.{tooMany, wrongStep, _when_, refuse, andThen}
-use Rattle.verdict.specs.File.{byteAt, inOrder}
+use Rattle.verdict.specs.Refusal.{wrongStep, andThen}
+use Rattle.verdict.specs.File.{bytesVerdict}
 use Rattle.verdict.specs.Output.{join, roomFor}
 use Rattle.frame.specs.Frame.{clocks, logRecord}
 use Rattle.frame.specs.List.{mostTransactions}
@@ -28,14 +25,12 @@ abbrev pub mostSteps : ℕ
 mostSteps = mostTransactions * clocks
 
 -- 11: "clock step over 3"
-abbrev pub stepFault : List ℕ → ℕ → ℕ
-stepFault steps k = wrongStep when ltb 3 (byteAt steps k)
+abbrev pub largestStep : ℕ
+largestStep = 3
 
 -- the steps' checks: 2, then 11 at the first step over 3
-unfoldable pub stepsVerdict : List ℕ → Verdict
-stepsVerdict steps =
-    refuse (tooMany when ltb mostSteps (length steps)) 0
-    (inOrder (stepFault steps) 0 (length steps) (Done (length steps)))
+abbrev pub stepsVerdict : List ℕ → Verdict
+stepsVerdict steps = bytesVerdict mostSteps largestStep wrongStep steps
 
 -- 12, then the steps, then the events with the number of steps as the last clock, then 10
 abbrev pub running : Board → List ℕ → List ℕ → List ℕ → Verdict

@@ -23,6 +23,7 @@ use board::clock_of;
 use frame::Frame;
 use frame::Transaction;
 use verdict::Verdict;
+use verdict::check_bytes;
 
 pub struct Steps {}
 
@@ -37,18 +38,7 @@ impl Steps {
 fn check_steps(steps: &[u8]) -> Verdict
     ensures { λ r. ⌜ r ≡ stepsVerdict (now (steps .entry)) ⌝ }
 {
-    let count = steps.len();
-    if Steps::MOST < count {
-        return Verdict::Refused(Verdict::TOO_MANY, 0);
-    }
-    let mut k: usize = 0;
-    while k < count {
-        if Steps::LARGEST < steps[k] {
-            return Verdict::Refused(Verdict::WRONG_STEP, k);
-        }
-        k += 1;
-    }
-    Verdict::Done(count)
+    check_bytes(steps, Steps::MOST, Steps::LARGEST, Verdict::WRONG_STEP)
 }
 
 // Whether the event record at index `next` comes up to a clock.

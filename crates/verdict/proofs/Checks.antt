@@ -12,7 +12,7 @@ use borrow.Author.Tests.{eqb-true, eqb-false, ltb-true, ltb-false, eq-eqb, le-lt
 use Rattle.verdict.specs.declared.Verdict.{Verdict}
 use Rattle.verdict.specs.declared.Verdict.the-variants.{Done, Refused}
 use Rattle.verdict.specs.Refusal.{wrongLength, tooMany, _when_, refuse, andThen}
-use Rattle.verdict.specs.File.{records, inOrder, fileVerdict}
+use Rattle.verdict.specs.File.{records, inOrder, fileVerdict, byteFault, bytesVerdict}
 
 module _ (fault : ℕ → ℕ) (v : Verdict) where
   -- a record that passes: the rest decides
@@ -186,3 +186,28 @@ module _ (size most : ℕ) (fault : ℕ → ℕ) (file : List ℕ) where
           let index : 0 ≡ j = cc in
           rw (← number, ← index) (too-many (eqb-true _ 0 p) (ltb-true most _ q))
       go true false p q e = at-record (eqb-true _ 0 p) (ltb-false most _ q) (refused-first fault (records size file) 0 (records size file) c j e)
+
+-- A file of single bytes
+module _ (most largest number : ℕ) (file : List ℕ) where
+  -- one that passes: as many bytes as there are, few enough, and each of them
+  pub record BytesPass (n : ℕ) : Type 0 where
+    pub count : n ≡ length file
+    pub few : length file ≤ most
+    pub each : (i : ℕ) → i < length file → byteFault largest number file i ≡ 0
+
+  pub passed-bytes : (n : ℕ) → bytesVerdict most largest number file ≡ Done n → BytesPass n
+  unfolding bytesVerdict
+  passed-bytes n e = go (ltb most (length file)) refl e
+    where
+      go : (b : Bool) → ltb most (length file) ≡ b → refuse (tooMany when b) 0 (inOrder (byteFault largest number file) 0 (length file) (Done (length file))) ≡ Done n → BytesPass n
+      go true p e = absurd (let z : _≡_ {A = ℕ} 0 1 = cc in omega arith)
+      go false p e =
+          let pass = done-all-pass (byteFault largest number file) (length file) 0 (length file) n e in
+          record { count = sym (pass .0); few = ltb-false most (length file) p; each = λ i h. pass .1 i (omega arith) (omega arith) }
+
+  -- and the other way round
+  pub bytes-done : length file ≤ most → ((i : ℕ) → i < length file → byteFault largest number file i ≡ 0) → bytesVerdict most largest number file ≡ Done (length file)
+  unfolding bytesVerdict
+  bytes-done few each =
+      rw (le-ltb most (length file) few)
+      (all-pass-done (byteFault largest number file) (Done (length file)) 0 (length file) (λ i h l. each i (omega arith)))

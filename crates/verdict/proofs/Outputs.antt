@@ -45,6 +45,14 @@ module _ {A : Type 0} (f : ℕ → A) (out : List A) where
   pub fill : (xs : List A) (i : ℕ) (v : A) → i < length out → xs ≡ filled i → v ≡ f i → set xs i v ≡ filled (i + 1)
   fill xs i v h so-far here = ap₂ (λ (ys : List A) (w : A). set ys i w) so-far here ∙ fill-next i h
 
+-- A result that grows: w values more, put in the place behind those that are there
+pub put-next : (done piece out : List ℕ) (at w : ℕ) → length done ≡ at → length piece ≡ w →
+    putMid at (at + w - at) (done ++ drop at out) piece ≡ (done ++ piece) ++ drop (at + w) out
+put-next done piece out at w long size =
+    let width : at + w - at ≡ w = omega arith in
+    rw (take-at done (drop at out) at long, drop-at done (drop at out) at long, width, drop-drop)
+    (sym (append-assoc done piece (drop (at + w) out)))
+
 -- An output filled piece by piece, each w values long
 abbrev pub pieced : ℕ → (ℕ → List ℕ) → List ℕ → ℕ → List ℕ
 pieced w piece out k = join (tabulate k piece) ++ drop (k * w) out
@@ -60,12 +68,9 @@ module _ (w : ℕ) (piece : ℕ → List ℕ) (size : (k : ℕ) → length (piec
   -- one piece more, put in the place of w values after k pieces
   pub piece-next : (k : ℕ) → putMid (k * w) (k * w + w - k * w) (pieced w piece out k) (piece k) ≡ pieced w piece out (k + 1)
   piece-next k =
-      let long = length-pieces w k piece size in
-      let all = join (tabulate k piece) in
-      let width : k * w + w - k * w ≡ w = omega arith in
-      let place : (k + 1) * w ≡ k * w + w = rw (add-one, suc-mul) in
-      rw (take-at all (drop (k * w) out) (k * w) long, drop-at all (drop (k * w) out) (k * w) long, width, drop-drop, place)
-      (sym (append-assoc all (piece k) (drop (k * w + w) out)) ∙ ap (λ (xs : List ℕ). xs ++ drop (k * w + w) out) (more k))
+      let place : k * w + w ≡ (k + 1) * w = rw (add-one, suc-mul) in
+      put-next (join (tabulate k piece)) (piece k) out (k * w) w (length-pieces w k piece size) (size k)
+      ∙ ap₂ (λ (xs : List ℕ) (n : ℕ). xs ++ drop n out) (more k) place
 
   -- all pieces are the result
   pub pieced-all : (n : ℕ) → pieced w piece out n ≡ written (join (tabulate n piece)) out

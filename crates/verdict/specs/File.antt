@@ -31,3 +31,13 @@ fileVerdict size most fault file =
     refuse (wrongLength when not (eqb (length file % size) 0)) 0
     (refuse (tooMany when ltb most (records size file)) 0
     (inOrder fault 0 (records size file) (Done (records size file))))
+
+-- a file of single bytes: what the check finds of the byte at index k, which must not be over the largest
+abbrev pub byteFault : ℕ → ℕ → List ℕ → ℕ → ℕ
+byteFault largest number file k = number when ltb largest (byteAt file k)
+
+-- and its checks: 2, then that number at the first byte over the largest; done says how many bytes there are
+unfoldable pub bytesVerdict : ℕ → ℕ → ℕ → List ℕ → Verdict
+bytesVerdict most largest number file =
+    refuse (tooMany when ltb most (length file)) 0
+    (inOrder (byteFault largest number file) 0 (length file) (Done (length file)))

@@ -58,6 +58,10 @@ notSound = 12
 abbrev pub wrongLogLength : ℕ
 wrongLogLength = 13
 
+-- a saved level over 1 (document 02, E1)
+abbrev pub wrongLevel : ℕ
+wrongLevel = 16
+
 -- "A refusal returns its number and the record's index from 0": of each answer its number, 0 for none, and its index
 abbrev pub number : Verdict → ℕ
 number (Done n) = 0

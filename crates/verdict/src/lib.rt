@@ -1,6 +1,6 @@
 // What every call shares: its answer, and the bytes of a file (document 01, "Records" and "Refusal numbers").
 ghost use mathlib.Core.Path.{_≡_};
-ghost use Rattle.verdict.specs.File.{byteAt, wordAt};
+ghost use Rattle.verdict.specs.File.{byteAt, wordAt, bytesVerdict};
 
 // The answer of every call.
 pub enum Verdict {
@@ -37,6 +37,8 @@ impl Verdict {
     pub const NOT_SOUND: u8 = 12;
 
     pub const WRONG_LOG_LENGTH: u8 = 13;
+
+    pub const WRONG_LEVEL: u8 = 16;
 }
 
 // A file's byte; past the end it reads 0.
@@ -57,4 +59,23 @@ pub fn word_at(file: &[u8], i: usize) -> u16
     } else {
         0
     }
+}
+
+// The checks of a file of single bytes: not over `most` of them, and none over `largest`, which `number` refuses.
+pub fn check_bytes(file: &[u8], most: usize, largest: u8, number: u8) -> Verdict
+    ensures { λ r. ⌜ r ≡ bytesVerdict most largest number (now (file .entry)) ⌝ }
+{
+    let count = file.len();
+    if most < count {
+        return Verdict::Refused(Verdict::TOO_MANY, 0);
+    }
+    let mut k: usize = 0;
+    while k < count {
+        let fault = if largest < file[k] { number } else { 0 };
+        if fault != 0 {
+            return Verdict::Refused(fault, k);
+        }
+        k += 1;
+    }
+    Verdict::Done(count)
 }

@@ -5,11 +5,12 @@ use native.Mathlib.Omega.{arith}
 use lib.ListN.{length}
 use borrow.Author.Tests.{lt-ltb, le-ltb}
 use Rattle.verdict.specs.declared.Verdict.the-variants.{Done}
+use Rattle.verdict.specs.Refusal.{wrongStep}
+use Rattle.verdict.proofs.Checks.{passed-bytes}
 use Rattle.board.specs.Check.{checked}
 use Rattle.board.specs.Events.{eventsVerdict}
-use Rattle.machine.specs.Run.{mostSteps, stepsVerdict, running}
+use Rattle.machine.specs.Run.{mostSteps, largestStep, stepsVerdict, running}
 use Rattle.machine.proofs.Laws.{refuses-back, succeeds-back}
-use Rattle.machine.proofs.Accepts.{steps-pass}
 use borrow.Author.Needs.{needs}
 use Rattle.machine.proofs.clocks.run.Statement.{statement}
 use Rattle.machine.proofs.clocks.run.Tie as tie
@@ -26,7 +27,9 @@ happening c = sym (c .before .before .check-events .ensures) ∙ c .enum-told4 .
 
 -- as many steps as were counted
 counted : (c : tie.After-stepped) → (c .stepped .given .0 .0 ≡ length (c .before .before .before .before .before .before .before .before .before .args .steps .now)) × (length (c .before .before .before .before .before .before .before .before .before .args .steps .now) ≤ mostSteps)
-counted c = steps-pass _ _ (stepped c)
+counted c =
+    let pass = passed-bytes mostSteps largestStep wrongStep _ _ (stepped c) in
+    (pass .count, pass .few)
 
 -- the run is not refused
 accepted : (c : tie.Else1) → running (c .before .before .before .before .before .before .before .before .before .before .before .before .before .before .args .board) (c .before .before .before .before .before .before .before .before .before .before .before .before .before .before .args .steps .now) (c .before .before .before .before .before .before .before .before .before .before .before .before .before .before .args .events .now) (c .before .before .before .before .before .before .before .before .before .before .before .before .before .before .args .log .now) ≡ Done (c .before .before .before .before .before .stepped .given .0 .0 * 5)
