@@ -6,6 +6,7 @@ mod log;
 mod steps;
 
 pub use answer::Answer;
+pub use answer::Turnaround;
 pub use answer::decode;
 pub use list::Transaction;
 pub use list::check_list;
@@ -23,6 +24,12 @@ impl Frame {
     pub const HEADER_BITS: usize = 14;
 
     pub const BITS: usize = 32;
+    // How many values the 30 bits behind a start have, the 18 behind a header, and the last 16, the data.
+    pub const AFTER_START_VALUES: u32 = 0x4000_0000;
+
+    pub const TAIL_VALUES: u32 = 0x4_0000;
+
+    pub const DATA_VALUES: u32 = 0x1_0000;
 
     // The bits of a start, and of a write's and a read's op.
     pub const START_BITS: u16 = 1;

@@ -7,6 +7,7 @@ ghost use Rattle.machine.specs.Common.{standing};
 ghost use Rattle.machine.specs.Lines.{lineOf, wordless, lineDrives, isOwn, lineActs, captures, lineFollows, joinedBoard};
 use crate::common::Common;
 use board::Board;
+use frame::Frame;
 use frame::Transaction;
 use phy::Phy;
 use wire::Drive;
@@ -85,11 +86,11 @@ impl Line {
         let Follower::Inside(seen, bits) = follower else {
             return false;
         };
-        let shifted = bits % Follower::HALF_FRAME_VALUES * 2;
+        let shifted = Follower::one_more(bits, false);
         match seen {
             Phy::BEFORE_HEADER => self.is_own(Transaction::READ, Header::of(shifted)),
             Follower::MOST_SEEN => {
-                self.is_own(Transaction::WRITE, Header::of(shifted / Phy::TAIL_VALUES))
+                self.is_own(Transaction::WRITE, Header::of(shifted / Frame::TAIL_VALUES))
             }
             _ => false,
         }

@@ -1,11 +1,12 @@
 // A PHY in a clock: what it drives, and what it is after it sampled the level.
 ghost use mathlib.Core.Path.{_≡_};
 ghost use Prim.Native.Nat.{_≤_};
-ghost use Rattle.wire.specs.Follower.{oneMore, answering};
+ghost use Rattle.wire.specs.Follower.{answering};
 ghost use Rattle.phy.specs.Fields.{withFollower, withCaptured};
 ghost use Rattle.phy.specs.Clock.{fresh, enough, takes, answers, stores, afterHeader, afterFrame, drives, atHeader, acts, clock};
 use crate::Phy;
 use crate::status::Status;
+use frame::Frame;
 use frame::Transaction;
 use wire::Drive;
 use wire::Follower;
@@ -20,11 +21,6 @@ impl Phy {
     pub const HEADER: u8 = 14;
     // The bits seen before the clock in which an answer starts: it drives 0 for bit 16.
     pub const BEFORE_ANSWER: u8 = 15;
-    // How many values the 18 bits behind a header have, and the last 16 of them, the data.
-    pub const TAIL_VALUES: u32 = 0x4_0000;
-
-    const DATA_VALUES: u32 = 0x1_0000;
-
     // As a load leaves it: hunting with 0 ones, link down, registers at default.
     pub fn fresh(address: u8, implemented: u32, defaults: [u16; 32], masks: [u16; 32]) -> Phy
         ensures { λ r. ⌜ r ≡ fresh address implemented defaults masks ⌝ }
@@ -173,20 +169,12 @@ impl Phy {
         match seen {
             Phy::BEFORE_HEADER => self.at_header(Header::of(bits)),
             Follower::MOST_SEEN => {
-                let header = Header::of(bits / Phy::TAIL_VALUES);
-                let word = (bits % Phy::DATA_VALUES) as u16;
+                let header = Header::of(bits / Frame::TAIL_VALUES);
+                let word = (bits % Frame::DATA_VALUES) as u16;
                 self.after_frame(header, word).with_captured(0)
             }
             _ => self,
         }
-    }
-
-    // The bits of a frame with one more behind them.
-    fn one_more(bits: u32, level: bool) -> u32
-        ensures { λ r. ⌜ r ≡ oneMore bits level ⌝ }
-    {
-        let shifted = bits % Follower::HALF_FRAME_VALUES * 2;
-        if level { shifted + 1 } else { shifted }
     }
 
     // The PHY after a clock at a level.
@@ -198,7 +186,7 @@ impl Phy {
         let Follower::Inside(seen, bits) = follower else {
             return self.with_follower(next);
         };
-        self = self.acts(seen, Phy::one_more(bits, level));
+        self = self.acts(seen, Follower::one_more(bits, level));
         self.with_follower(next)
     }
 }

@@ -1,7 +1,7 @@
 // What every party on the wire has in common: what it may drive in a clock, and how it follows frames by the levels
 // alone (document 01, "Clock steps" and "The PHY's follower").
 ghost use mathlib.Core.Path.{_≡_};
-ghost use Rattle.wire.specs.Follower.{follow, headerOf};
+ghost use Rattle.wire.specs.Follower.{oneMore, follow, headerOf};
 
 // What one party does to the wire in a clock.
 pub enum Drive {
@@ -44,6 +44,14 @@ impl Follower {
     // How many values a frame has without its last bit: the bits seen, below this, have room for one more.
     pub const HALF_FRAME_VALUES: u32 = 0x8000_0000;
 
+    // The bits of a frame with one more behind them, of which the last 32 are kept.
+    pub fn one_more(bits: u32, level: bool) -> u32
+        ensures { λ r. ⌜ r ≡ oneMore bits level ⌝ }
+    {
+        let shifted = bits % Follower::HALF_FRAME_VALUES * 2;
+        if level { shifted + 1 } else { shifted }
+    }
+
     // What the follower is after a clock at this level, where `enough` ones let a 0 start a frame.
     pub fn follow(self, enough: u8, level: bool) -> Follower
         ensures { λ r. ⌜ r ≡ follow enough level self ⌝ }
@@ -66,13 +74,10 @@ impl Follower {
                 if seen >= Follower::MOST_SEEN {
                     return Follower::Hunting(0);
                 }
-                let next = bits % Follower::HALF_FRAME_VALUES * 2;
-                if level {
-                    Follower::Inside(seen + 1, next + 1)
-                } else if seen == 1 {
+                if !level & (seen == 1) {
                     Follower::Hunting(0)
                 } else {
-                    Follower::Inside(seen + 1, next)
+                    Follower::Inside(seen + 1, Follower::one_more(bits, level))
                 }
             }
         }

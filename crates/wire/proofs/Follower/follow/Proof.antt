@@ -1,19 +1,19 @@
 -- A follower after a clock: each branch of the code is the clause of `follow` that its tests pick.
-use Rattle.wire.specs.Follower.{follow}
-use borrow.Author.Tests.{le-leb, lt-leb, eq-eqb, ne-eqb}
-use native.Mathlib.Omega.{arith}
-use Prim.Native.Nat.{_+_, min}
-use mathlib.Core.Path.{_≡_, ap}
-use Rattle.wire.specs.declared.Follower.the-variants.{Hunting}
 use borrow.Author.Needs.{needs}
 use Rattle.wire.proofs.Follower.follow.Statement.{statement}
 use Rattle.wire.proofs.Follower.follow.Tie as tie
+use Rattle.wire.specs.Follower.{follow}
+use borrow.Author.Tests.{le-leb, lt-leb}
+use native.Mathlib.Omega.{arith}
+use Prim.Native.Nat.{_+_, min}
+use mathlib.Core.Path.{_≡_, ap}
+use Rattle.wire.specs.declared.Follower.the-variants.{Hunting, Inside}
 
 enum-known-self : tie.Need-enum-known-self
 enum-known-self c = search needs
 
-add-t13 : tie.Need-add-t13
-add-t13 c = search needs
+add-t12 : tie.Need-add-t12
+add-t12 c = search needs
 
 enum-known-self-2 : tie.Need-enum-known-self-2
 enum-known-self-2 c = search needs
@@ -22,17 +22,11 @@ returns : tie.Need-returns
 unfolding follow
 returns c = rw (c .before .before .self2 .given .1, le-leb 31 _ (c .if4 .taken))
 
-mul-next : tie.Need-mul-next
-mul-next c = search needs
-
 add-t19 : tie.Need-add-t19
 add-t19 c = search needs
 
-add-t20 : tie.Need-add-t20
-add-t20 c = search needs
-
-add-t23 : tie.Need-add-t23
-add-t23 c = search needs
+one-more-requires : tie.Need-one-more-requires
+one-more-requires c κs = search needs
 
 returns-2 : tie.Need-returns-2
 unfolding follow
@@ -58,32 +52,27 @@ returns-5 c = rw (c .before .before .before .self .given .1, c .before .if1 .lef
 
 returns-6 : tie.Need-returns-6
 unfolding follow
-returns-6 c = rw (c .before .before .before .self2 .given .1, c .if5 .taken, lt-leb 31 _ (c .before .if4 .left))
+returns-6 c = rw (c .before .before .before .self2 .given .1, lt-leb 31 _ (c .before .if4 .left), c .if5 .taken)
 
 returns-7 : tie.Need-returns-7
 unfolding follow
-returns-7 c = rw (c .before .before .before .before .self2 .given .1, c .before .if5 .left, lt-leb 31 _ (c .before .before .if4 .left), eq-eqb _ 1 (c .if6 .taken))
-
-returns-8 : tie.Need-returns-8
-unfolding follow
-returns-8 c = rw (c .before .before .before .before .self2 .given .1, c .before .if5 .left, lt-leb 31 _ (c .before .before .if4 .left), ne-eqb _ 1 (c .if6 .left))
+returns-7 c =
+    rw (c .before .before .before .before .self2 .given .1, lt-leb 31 _ (c .before .before .if4 .left), c .before .if5 .left)
+    (ap (Inside (c .before .before .before .before .self2 .given .0 .0 + 1)) (c .one-more .ensures))
 
 pub follow-spec : {M : Type 1} → statement M
 follow-spec =
     tie.close
     (tie.spec
     enum-known-self
-    add-t13
+    add-t12
     enum-known-self-2
     returns
-    mul-next
     add-t19
-    add-t20
-    add-t23
+    one-more-requires
     returns-2
     returns-3
     returns-4
     returns-5
     returns-6
-    returns-7
-    returns-8)
+    returns-7)

@@ -1,7 +1,7 @@
 -- The level decides the last bit.
 use borrow.Author.Needs.{needs}
-use Rattle.phy.proofs.Phy.one_more.Statement.{statement}
-use Rattle.phy.proofs.Phy.one_more.Tie as tie
+use Rattle.wire.proofs.Follower.one_more.Statement.{statement}
+use Rattle.wire.proofs.Follower.one_more.Tie as tie
 
 mul-shifted : tie.Need-mul-shifted
 mul-shifted c = search needs
