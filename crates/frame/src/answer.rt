@@ -9,7 +9,7 @@ use verdict::byte_at;
 ghost use mathlib.Core.Path.{_≡_};
 ghost use Prim.Native.Nat.{_≤_};
 ghost use Rattle.frame.specs.Log.{levelAt};
-ghost use Rattle.frame.specs.Answers.{wordIn, turnaroundIn, isAnswered, answerTo, answerIn, putIn, Decoded};
+ghost use Rattle.frame.specs.Answers.{wordIn, turnaroundIn, isAnswered, answerTo, readAnswer, answerIn, putIn, Decoded};
 
 pub struct Answer {
     pub status: u8,
@@ -100,6 +100,17 @@ impl Transaction {
         }
     }
 
+    // The decoder's rule: what a read's turnaround and the word behind it answer.
+    pub fn read_answer(self, turnaround: Turnaround, word: u16) -> Answer
+        ensures { λ r. ⌜ r ≡ readAnswer self turnaround word ⌝ }
+    {
+        if turnaround.answered() {
+            self.answer(Answer::ANSWERED, word)
+        } else {
+            self.answer(Answer::SILENT, 0)
+        }
+    }
+
     // The answer in the transaction's part of the log.
     fn answer_in(self, part: &[u8]) -> Answer
         ensures { λ r. ⌜ r ≡ answerIn self (now (part .entry)) ⌝ }
@@ -107,11 +118,7 @@ impl Transaction {
         if self.op != Transaction::READ {
             return self.answer(Answer::SENT, self.data);
         }
-        if Turnaround::of(part).answered() {
-            self.answer(Answer::ANSWERED, word_in(part))
-        } else {
-            self.answer(Answer::SILENT, 0)
-        }
+        self.read_answer(Turnaround::of(part), word_in(part))
     }
 }
 
