@@ -48,20 +48,20 @@ module _ (board : Board) (list events : List ℕ) (asked : Asked board list) whe
   party : Party Phy
   party = partyWith events
 
-  drives : List (List Drive)
+  unfoldable pub drives : List (List Drive)
   drives = driven (partyWith events) (stationDrives (translation list)) 0 (atStart board events)
 
-  agrees : AgreesAll (partyWith events) (coreWith events) phyLine preamble preamble (transactions list) 0 (atStart board events)
+  pub agrees : AgreesAll (partyWith events) (coreWith events) phyLine preamble preamble (transactions list) 0 (atStart board events)
   agrees =
       whole-agreement (phy-follows (happens events) (happens-effect events)) (transactions list) (physOf board)
       (accepted-all list (asked .count) (asked .accepted) (asked .bytes))
       (waiting board (asked .phys) (asked .sound) (asked .typed) (asked .hunt))
       (one-answers board (asked .phys) (asked .sound) (happens events))
 
-  station : stationForAll preamble preamble (transactions list) ≡ stationDrives (translation list)
+  pub station : stationForAll preamble preamble (transactions list) ≡ stationDrives (translation list)
   station = station-translated (transactions list)
 
-  log : List ℕ
+  unfoldable pub log : List ℕ
   log = logOfRun board (translation list) events
 
   -- who drives in a clock of the run
@@ -70,7 +70,7 @@ module _ (board : Board) (list events : List ℕ) (asked : Asked board list) whe
   drives-in = driven-at events (translation list) (atStart board events)
 
   -- the levels of the log are those of the run
-  level-run : (clock : ℕ) → 1 ≤ clock → clock ≤ clocksOf preamble preamble (transactions list) → levelAt log clock ≡ at (map levelOf drives) clock
+  pub level-run : (clock : ℕ) → 1 ≤ clock → clock ≤ clocksOf preamble preamble (transactions list) → levelAt log clock ≡ at (map levelOf drives) clock
   unfolding levelAt log
   level-run clock low high =
       let inside : clock - 1 < length (translation list) = omega (arith, length-translation list, clocks-translated (transactions list), length-tabulate (records listRecord list) (transactionAt list)) in
@@ -112,7 +112,7 @@ module _ (board : Board) (list events : List ℕ) (asked : Asked board list) whe
       ∙ map-then (λ (f : Follower). Hunting 1) (λ (phy : Phy). phy .follower) (λ phy. Hunting 1) (λ phy. refl) (physOf board)
 
   -- the decoder hears what the plain machine answers
-  heard-plain : answersIn list (logOfRun board (translation list) events) ≡ answersOfPlain board list events
+  pub heard-plain : answersIn list (logOfRun board (translation list) events) ≡ answersOfPlain board list events
   unfolding log drives
   heard-plain =
       let whole = accepted-list list (asked .count) (asked .accepted) in

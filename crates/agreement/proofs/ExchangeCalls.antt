@@ -97,10 +97,10 @@ refused-by (Refused d j) size e = e
 
 -- A list that the checks let through
 module _ (list : List ℕ) (n : ℕ) (accepted : listVerdict list ≡ Done n) where
-  few : n ≤ mostTransactions
+  pub few : n ≤ mostTransactions
   few = accepted-list list n accepted .allowed
 
-  steps-counted : length (translation list) ≡ n * clocks
+  pub steps-counted : length (translation list) ≡ n * clocks
   steps-counted = length-translation list ∙ ap (λ m. m * clocks) (sym (accepted-list list n accepted .count))
 
   log-counted : (board : Board) (events : List ℕ) → length (logOfRun board (translation list) events) ≡ n * clocks * logRecord
@@ -117,7 +117,7 @@ module _ (list : List ℕ) (n : ℕ) (accepted : listVerdict list ≡ Done n) wh
   running-list board events log room = rw (steps-accepted, room-done log (n * clocks * logRecord) (omega (arith, few)))
 
   -- its log is refused for room alone
-  decoding-log : (board : Board) (events out : List ℕ) → decoding list (logOfRun board (translation list) events) out ≡ roomFor out (n * answerRecord)
+  pub decoding-log : (board : Board) (events out : List ℕ) → decoding list (logOfRun board (translation list) events) out ≡ roomFor out (n * answerRecord)
   decoding-log board events out = rw (accepted, eq-eqb _ (n * logPartBytes) (log-counted board events ∙ omega arith))
 
 -- the list's checks decide whether it is translated

@@ -80,7 +80,7 @@ module _ (t : Transaction) (accepted : Accepted t) where
   abbrev pub headerWord : ℕ
   headerWord = ((4 + t .op) * 32 + t .address) * 32 + t .register
 
-  op-is : (t .op ≤ 2) × (shiftIn 1 (opSteps (isRead t)) ≡ 4 + t .op)
+  pub op-is : (t .op ≤ 2) × (shiftIn 1 (opSteps (isRead t)) ≡ 4 + t .op)
   unfolding shiftIn
   op-is = go (isRead t) refl
     where
@@ -88,7 +88,7 @@ module _ (t : Transaction) (accepted : Accepted t) where
       go true e = let two : t .op ≡ 2 = eqb-true (t .op) 2 e in (omega arith, omega arith)
       go false e = let one : t .op ≡ 1 = accepted .op e in (omega arith, omega arith)
 
-  row-says : shiftIn 1 (headerRow t) ≡ headerWord
+  pub row-says : shiftIn 1 (headerRow t) ≡ headerWord
   unfolding join
   row-says =
       shiftIn-append 1 (opSteps (isRead t)) (bits 5 (t .address) ++ (bits 5 (t .register) ++ []))

@@ -12,6 +12,7 @@ use Rattle.board.specs.declared.Board.{Board}
 use Rattle.board.specs.Load.{loaded}
 use Rattle.machine.specs.Run.{running, logOfRun}
 use Rattle.machine.specs.Plain.{planning, answersOfPlain}
+use Rattle.listener.specs.Listening.{listening, recordBytes}
 use mathlib.Core.List.{map}
 
 -- an answer as a number; an index is far below 65536
@@ -41,3 +42,6 @@ OpensRun file steps events out r out′ =
 abbrev pub OpensPlain : List ℕ → List ℕ → List ℕ → List ℕ → ℕ → List ℕ → Type 0
 OpensPlain file list events out r out′ =
     Opens (withBoard file (λ board. planning board list events out)) (join (map answerBytes (answersOfPlain (loaded file .board) list events))) out r out′
+
+abbrev pub OpensListen : List ℕ → List ℕ → ℕ → List ℕ → Type 0
+OpensListen capture out r out′ = Opens (listening capture out) (recordBytes capture) out r out′

@@ -3,11 +3,12 @@
 use board::load;
 use frame::decode;
 use frame::translate;
+use listener::listen;
 use machine::plain;
 use machine::run;
 use verdict::Verdict;
 ghost use mathlib.Core.Path.{_≡_};
-ghost use Rattle.door.specs.Door.{codeOf, OpensTranslate, OpensDecode, OpensRun, OpensPlain};
+ghost use Rattle.door.specs.Door.{codeOf, OpensTranslate, OpensDecode, OpensRun, OpensPlain, OpensListen};
 
 fn code(answer: Verdict) -> u64
     ensures { λ r. ⌜ r ≡ codeOf answer ⌝ }
@@ -65,4 +66,11 @@ pub extern "C" fn taksherub_plain(
     let outcome = plain(fresh, list, events, answers);
     let answer = outcome.verdict;
     code(answer)
+}
+
+#[no_mangle]
+pub extern "C" fn taksherub_listen(levels: &[u8], answers: &mut [u8]) -> u64
+    ensures { λ r. ⌜ OpensListen (now (levels .entry)) (now (answers .entry)) r (now (answers .exit)) ⌝ }
+{
+    code(listen(levels, answers))
 }

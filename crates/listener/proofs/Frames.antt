@@ -1,0 +1,78 @@
+-- The frames heard in levels a, then b, are those heard in a and those that the follower which a leaves hears in b. Each takes 64 clocks, 32 ones and 32 bits, so few fit.
+use Prim.Native.Nat.{ℕ, _+_, _*_, _≤_, min}
+use mathlib.Core.Path.{_≡_, refl, ap, sym, _∙_}
+use mathlib.Core.Bool.{Bool, true, false, not, _&&_, cond}
+use mathlib.Core.List.{List, [], _∷_, _++_, map, map-append, append-assoc}
+use native.Mathlib.Omega.{arith}
+use lib.ListN.{length, length-append}
+use lib.Dec.{leb, eqb}
+use borrow.Author.Tests.{leb-true, leb-false}
+use Rattle.verdict.specs.Output.{join}
+use Rattle.verdict.proofs.Lists.{join-append}
+use Rattle.frame.specs.declared.answer.Answer.{Answer}
+use Rattle.wire.specs.declared.Follower.{Follower}
+use Rattle.wire.specs.declared.Follower.the-variants.{Hunting, Inside}
+use Rattle.wire.specs.Follower.{oneMore, follow}
+use Rattle.listener.specs.Frames.{enough, framesEnding, framesFrom, followed}
+use Rattle.listener.specs.Records.{transactionIn, turnaroundIn, startsRight, isOurs, answerBy, recordsOf, recordsOfAll}
+
+pub frames-append : (f : Follower) (a b : List Bool) → framesFrom f (a ++ b) ≡ framesFrom f a ++ framesFrom (followed f a) b
+unfolding framesFrom followed
+frames-append f [] b = refl
+frames-append f (level ∷ a) b =
+    ap (λ frames. framesEnding level f ++ frames) (frames-append (follow enough level f) a b)
+    ∙ sym (append-assoc (framesEnding level f) (framesFrom (follow enough level f) a) (framesFrom (followed (follow enough level f) a) b))
+
+pub followed-append : (f : Follower) (a b : List Bool) → followed f (a ++ b) ≡ followed (followed f a) b
+unfolding followed
+followed-append f [] b = refl
+followed-append f (level ∷ a) b = followed-append (follow enough level f) a b
+
+pub records-append : (a b : List ℕ) → recordsOfAll (a ++ b) ≡ recordsOfAll a ++ recordsOfAll b
+records-append a b = ap join (map-append recordsOf a b) ∙ join-append (map recordsOf a) (map recordsOf b)
+
+-- the clocks of the next frame that a follower has behind it, of 64
+abbrev behind : Follower → ℕ
+behind (Hunting ones) = min ones 32
+behind (Inside seen bits) = 32 + seen
+
+-- a clock brings it on by one at most, and a frame that ends spends all 64
+spends : (level : Bool) (f : Follower) → 64 * length (framesEnding level f) + behind (follow enough level f) ≤ behind f + 1
+unfolding follow
+spends true (Hunting ones) = omega arith
+spends false (Hunting ones) = go (leb 32 ones) refl
+  where
+    go : (b : Bool) → leb 32 ones ≡ b → 0 + behind (cond b (Inside 1 0) (Hunting 0)) ≤ min ones 32 + 1
+    go true e = omega (arith, leb-true 32 ones e)
+    go false e = omega arith
+spends level (Inside seen bits) = go (leb 31 seen) (not level && eqb seen 1) refl
+  where
+    go : (ends wrong : Bool) → leb 31 seen ≡ ends →
+        64 * length (cond ends (oneMore bits level ∷ []) []) + behind (cond ends (Hunting 0) (cond wrong (Hunting 0) (Inside (seen + 1) (oneMore bits level)))) ≤ 32 + seen + 1
+    go true wrong e = omega (arith, leb-true 31 seen e)
+    go false true e = omega arith
+    go false false e = omega arith
+
+frames-few : (f : Follower) (levels : List Bool) → 64 * length (framesFrom f levels) ≤ behind f + length levels
+unfolding framesFrom
+frames-few f [] = omega arith
+frames-few f (level ∷ levels) =
+    omega (arith, spends level f, frames-few (follow enough level f) levels, length-append (framesEnding level f) (framesFrom (follow enough level f) levels))
+
+-- a frame gives one record at most
+one-record : (frame : ℕ) → length (recordsOf frame) ≤ 1
+unfolding recordsOf
+one-record frame = go (startsRight frame && isOurs (transactionIn frame))
+  where
+    go : (b : Bool) → length (cond b (answerBy (transactionIn frame) (turnaroundIn frame) ∷ []) []) ≤ 1
+    go true = omega arith
+    go false = omega arith
+
+records-few : (frames : List ℕ) → length (recordsOfAll frames) ≤ length frames
+unfolding join
+records-few [] = omega arith
+records-few (frame ∷ frames) = omega (arith, one-record frame, records-few frames, length-append (recordsOf frame) (recordsOfAll frames))
+
+-- so 64 clocks are gone for each record
+pub clocks-each : (levels : List Bool) → 64 * length (recordsOfAll (framesFrom (Hunting 0) levels)) ≤ length levels
+clocks-each levels = omega (arith, records-few (framesFrom (Hunting 0) levels), frames-few (Hunting 0) levels)

@@ -1,0 +1,4 @@
+pub mod Frames
+pub mod Records
+pub mod Listening
+pub mod ReadBack
