@@ -14,14 +14,17 @@ ghost use Rattle.listener.specs.Records.{transactionIn, turnaroundIn, re
 ghost use Rattle.listener.specs.Listening.{HasRoom, Heard, Listened};
 
 // What is saved: as many bytes as the longest run has clocks, each a level.
-struct Capture {}
+pub struct Capture {}
 
 impl Capture {
-    const MOST: usize = Steps::MOST;
+    pub const MOST: usize = Steps::MOST;
 
     const LARGEST: u8 = 1;
-    // A record takes its preamble and its frame at least; the next may follow without an idle clock.
+    // A record takes its preamble and its frame at least; the next may follow without an idle clock. So no capture has more
+    // records than this.
     const CLOCKS_EACH: usize = Frame::PREAMBLE + Frame::BITS;
+
+    pub const MOST_RECORDS: usize = Capture::MOST / Capture::CLOCKS_EACH;
 }
 
 // What a frame of 32 bits says.
