@@ -1,6 +1,8 @@
 //! The bench as document 01 describes it: its files, the PHY, the wire, and the plain machine that has no wire.
 
 pub mod board;
+pub mod follower;
+mod frame;
 pub mod phy;
 pub mod plain;
 pub mod program;
