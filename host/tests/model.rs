@@ -5,32 +5,82 @@ use std::path::Path;
 use taksherub_host::calls::{Call, Calls, MODEL};
 use taksherub_host::draw::draw;
 use taksherub_host::generate;
-use taksherub_host::make::{board_p, read, steps, write};
-use taksherub_host::model::program;
+use taksherub_host::make::{board_p, capture, log, read, steps, write};
+use taksherub_host::model::follower::{Follower, Whole, PREAMBLE};
+use taksherub_host::model::listener::heard;
 use taksherub_host::model::wire::{CONTENTION, STATION};
+use taksherub_host::model::{decode, listen, program, run, Board};
 use taksherub_host::random::Random;
 
-/// From a fresh load, the answers by the wire are those of the plain machine.
+/// From a fresh load, the answers by the wire are those of the plain machine, and the listener reads them back from the levels.
 #[test]
-fn both_machines_agree() {
-    let Calls { run, decode, plain, .. } = MODEL;
+fn both_machines_and_the_listener_agree() {
+    let Calls { decode, plain, listen, .. } = MODEL;
     let mut random = Random::new(3);
     let mut compared = 0;
     for _ in 0..10_000 {
         let input = generate::input(&mut random, Call::Plain);
-        let transactions = input.list.len() / 6;
-        let (mut plainly, mut wired) = (vec![0; 6 * transactions], vec![9; 6 * transactions]);
+        let [mut plainly, mut wired, mut back] = [0, 8, 9].map(|fill| vec![fill; input.list.len()]);
         if plain(&input.board, &input.list, &input.events, &mut plainly).is_err() {
             continue;
         }
-        let mut log = vec![9; 325 * transactions];
-        run(&input.board, &steps(&input.list), &input.events, &mut log).unwrap();
+        let log = log(&input.board, &steps(&input.list), &input.events);
         decode(&input.list, &log, &mut wired).unwrap();
         assert_eq!(wired, plainly);
+        listen(&capture(&log), &mut back).unwrap();
+        assert_eq!(back, wired, "the levels read back");
         assert!(log.iter().step_by(5).all(|flags| flags & CONTENTION == 0), "a translated list shows no contention");
         compared += 1;
     }
     assert!(compared > 3_000, "only {compared} of the inputs were good");
+}
+
+/// "From a hunting board": the levels of a second run, of a board that hunts and is not fresh, read back too.
+#[test]
+fn a_second_run_reads_back() {
+    let mut random = Random::new(5);
+    let mut compared = 0;
+    for _ in 0..2_000 {
+        let input = generate::input(&mut random, Call::Plain);
+        let [mut wired, mut back] = [8, 9].map(|fill| vec![fill; input.list.len()]);
+        if (MODEL.plain)(&input.board, &input.list, &input.events, &mut wired).is_err() {
+            continue;
+        }
+        let steps = steps(&input.list);
+        let mut log = vec![9; 5 * steps.len()];
+        let mut board = Board::load(&input.board).unwrap();
+        run(&mut board, &steps, &input.events, &mut log).unwrap();
+        run(&mut board, &steps, &[], &mut log).unwrap();
+        decode(&input.list, &log, &mut wired).unwrap();
+        listen(&capture(&log), &mut back).unwrap();
+        assert_eq!(back, wired);
+        compared += 1;
+    }
+    assert!(compared > 600, "only {compared} of the inputs were good");
+}
+
+/// The generated captures give records of every status, none and the most of them; some frames give none, and some are cut off.
+#[test]
+fn generated_captures_are_rich() {
+    let mut random = Random::new(6);
+    let (mut by_status, mut none, mut most, mut other_frames, mut cut_off) = ([0; 3], 0, 0, 0, 0);
+    for _ in 0..5_000 {
+        let input = generate::input(&mut random, Call::Listen);
+        if (MODEL.listen)(&input.capture, &mut [0; 390]).is_err() {
+            continue;
+        }
+        let records: Vec<_> = heard(&input.capture).collect();
+        records.iter().for_each(|record| by_status[usize::from(record[0])] += 1);
+        none += usize::from(records.is_empty() && input.capture.len() > 64);
+        most += usize::from(records.len() == 65);
+        let mut follower = Follower::hunting(PREAMBLE);
+        let whole = |level: &&u8| matches!(follower.hear(**level == 1), Some(Whole::Frame(_)));
+        other_frames += input.capture.iter().filter(whole).count() - records.len();
+        cut_off += usize::from(follower.bits() > 0);
+    }
+    println!("records by status {by_status:?}, captures of none {none} and of the most {most}");
+    println!("other frames {other_frames}, captures that end inside a frame {cut_off}");
+    assert!(by_status.iter().all(|&count| count > 2_000) && none > 100 && most > 10 && other_frames > 500 && cut_off > 100);
 }
 
 /// The generated runs show answers and contention. Two PHYs never drive at once, whatever the steps: from a fresh load all that are
@@ -79,8 +129,8 @@ fn examples_print_what_is_expected() {
 fn the_bench_page_draws_the_wire() {
     let page = fs::read_to_string(Path::new(env!("CARGO_MANIFEST_DIR")).join("../docs/BENCH.md")).unwrap();
     let list = [write(3, 0, 0x1200), read(1, 1), read(2, 0)].concat();
-    let (steps, mut log) = (steps(&list), [9; 3 * 325]);
-    (MODEL.run)(&board_p(), &steps, &[], &mut log).unwrap();
+    let steps = steps(&list);
+    let log = log(&board_p(), &steps, &[]);
     for (steps, log) in steps.chunks(65).zip(log.chunks(325)) {
         let drawing = draw(steps, log);
         assert!(page.contains(&format!("```\n{drawing}```\n")), "the page lacks\n{drawing}");

@@ -41,6 +41,8 @@ pub const MOST_PHYS: usize = 32;
 pub const MOST_TRANSACTIONS: usize = 64;
 pub const MOST_EVENTS: usize = 256;
 pub const MOST_STEPS: usize = MOST_TRANSACTIONS * Transaction::CLOCKS;
+/// Records that a capture can give: frames of 32 bits after 32 ones each, with no idle clock.
+pub const MOST_HEARD: usize = MOST_STEPS / 64;
 
 /// The records of a file: refusal 1, then refusal 2.
 pub fn records<const SIZE: usize>(file: &[u8], most: usize) -> Result<&[[u8; SIZE]], Refusal> {
