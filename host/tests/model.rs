@@ -1,7 +1,7 @@
 //! The model against itself, and against the examples' expected text.
 
 use std::fs;
-use std::path::Path;
+use std::path::{Path, PathBuf};
 use taksherub_host::calls::{Call, Calls, MODEL};
 use taksherub_host::draw::draw;
 use taksherub_host::generate;
@@ -9,7 +9,7 @@ use taksherub_host::make::{board_p, capture, log, read, steps, write};
 use taksherub_host::model::follower::{Follower, Whole, PREAMBLE};
 use taksherub_host::model::listener::heard;
 use taksherub_host::model::wire::{CONTENTION, STATION};
-use taksherub_host::model::{decode, listen, program, run, Board};
+use taksherub_host::model::{decode, listen, program, read_back, run, Board};
 use taksherub_host::random::Random;
 
 /// From a fresh load, the answers by the wire are those of the plain machine, and the listener reads them back from the levels.
@@ -106,22 +106,39 @@ fn generated_runs_are_rich() {
     assert_eq!(two_phys, 0);
 }
 
-/// Every example tray prints what it says it does.
+fn examples() -> PathBuf {
+    Path::new(env!("CARGO_MANIFEST_DIR")).join("../examples")
+}
+
+/// Every example, a tray or a capture, prints what it says it does.
 #[test]
 fn examples_print_what_is_expected() {
-    let examples = Path::new(env!("CARGO_MANIFEST_DIR")).join("../examples");
-    let mut trays = 0;
-    for entry in fs::read_dir(examples).unwrap() {
-        let tray = entry.unwrap().path();
-        if !tray.is_dir() {
+    let (mut trays, mut captures) = (0, 0);
+    for entry in fs::read_dir(examples()).unwrap() {
+        let folder = entry.unwrap().path();
+        if !folder.is_dir() {
             continue;
         }
-        let file = |name: &str| fs::read(tray.join(name)).unwrap();
-        let expected = String::from_utf8(file("expected")).unwrap();
-        assert_eq!(program(&file("board.rec"), &file("list.rec"), &file("events.rec")), expected, "{}", tray.display());
-        trays += 1;
+        let file = |name: &str| fs::read(folder.join(name)).unwrap();
+        let printed = if folder.join("capture.rec").exists() {
+            captures += 1;
+            read_back(&file("capture.rec"))
+        } else {
+            trays += 1;
+            program(&file("board.rec"), &file("list.rec"), &file("events.rec"))
+        };
+        assert_eq!(printed, String::from_utf8(file("expected")).unwrap(), "{}", folder.display());
     }
-    assert!(trays >= 6, "{trays} trays");
+    assert!(trays >= 6 && captures >= 3, "{trays} trays, {captures} captures");
+}
+
+/// `capture-40` is the capture of the run of `tray-40`, and reads back as what is printed for that tray.
+#[test]
+fn the_example_capture_is_that_of_the_tray() {
+    let file = |name: &str| fs::read(examples().join(name)).unwrap();
+    let log = log(&file("tray-40/board.rec"), &steps(&file("tray-40/list.rec")), &file("tray-40/events.rec"));
+    assert_eq!(file("capture-40/capture.rec"), capture(&log));
+    assert_eq!(file("capture-40/expected"), file("tray-40/expected"));
 }
 
 /// The drawings of docs/BENCH.md are the wire's.
