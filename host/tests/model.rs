@@ -2,7 +2,7 @@
 
 use std::fs;
 use std::path::{Path, PathBuf};
-use taksherub_host::calls::{Call, Calls, MODEL};
+use taksherub_host::calls::{Call, Input, MODEL};
 use taksherub_host::draw::draw;
 use taksherub_host::generate;
 use taksherub_host::make::{board_p, capture, log, read, steps, write};
@@ -12,51 +12,51 @@ use taksherub_host::model::wire::{CONTENTION, STATION};
 use taksherub_host::model::{decode, listen, program, read_back, run, Board};
 use taksherub_host::random::Random;
 
-/// From a fresh load, the answers by the wire are those of the plain machine, and the listener reads them back from the levels.
-#[test]
-fn both_machines_and_the_listener_agree() {
-    let Calls { decode, plain, listen, .. } = MODEL;
-    let mut random = Random::new(3);
-    let mut compared = 0;
-    for _ in 0..10_000 {
+/// Inputs that the plain machine takes, out of so many, and its answers.
+fn good_inputs(seed: u64, count: usize) -> Vec<(Input, Vec<u8>)> {
+    let mut random = Random::new(seed);
+    let mut good = Vec::new();
+    for _ in 0..count {
         let input = generate::input(&mut random, Call::Plain);
-        let [mut plainly, mut wired, mut back] = [0, 8, 9].map(|fill| vec![fill; input.list.len()]);
-        if plain(&input.board, &input.list, &input.events, &mut plainly).is_err() {
-            continue;
+        let mut answers = vec![0; input.list.len()];
+        if (MODEL.plain)(&input.board, &input.list, &input.events, &mut answers).is_ok() {
+            good.push((input, answers));
         }
-        let log = log(&input.board, &steps(&input.list), &input.events);
-        decode(&input.list, &log, &mut wired).unwrap();
-        assert_eq!(wired, plainly);
-        listen(&capture(&log), &mut back).unwrap();
-        assert_eq!(back, wired, "the levels read back");
-        assert!(log.iter().step_by(5).all(|flags| flags & CONTENTION == 0), "a translated list shows no contention");
-        compared += 1;
     }
-    assert!(compared > 3_000, "only {compared} of the inputs were good");
+    assert!(good.len() * 10 > count * 3, "only {} of {count} inputs were good", good.len());
+    good
+}
+
+/// The answers to a list by the levels of its log, which the listener must read back.
+fn wired(list: &[u8], log: &[u8]) -> Vec<u8> {
+    let (mut answers, mut back) = (vec![8; list.len()], vec![9; list.len()]);
+    decode(list, log, &mut answers).unwrap();
+    listen(&capture(log), &mut back).unwrap();
+    assert_eq!(back, answers);
+    answers
+}
+
+/// From a fresh load, the answers by the wire are those of the plain machine, and its levels read back as these.
+#[test]
+fn both_machines_agree() {
+    for (input, plainly) in good_inputs(3, 10_000) {
+        let log = log(&input.board, &steps(&input.list), &input.events);
+        assert_eq!(wired(&input.list, &log), plainly);
+        assert!(log.iter().step_by(5).all(|flags| flags & CONTENTION == 0), "a translated list shows no contention");
+    }
 }
 
 /// "From a hunting board": the levels of a second run, of a board that hunts and is not fresh, read back too.
 #[test]
 fn a_second_run_reads_back() {
-    let mut random = Random::new(5);
-    let mut compared = 0;
-    for _ in 0..2_000 {
-        let input = generate::input(&mut random, Call::Plain);
-        let [mut wired, mut back] = [8, 9].map(|fill| vec![fill; input.list.len()]);
-        if (MODEL.plain)(&input.board, &input.list, &input.events, &mut wired).is_err() {
-            continue;
-        }
+    for (input, _) in good_inputs(5, 2_000) {
         let steps = steps(&input.list);
         let mut log = vec![9; 5 * steps.len()];
         let mut board = Board::load(&input.board).unwrap();
         run(&mut board, &steps, &input.events, &mut log).unwrap();
         run(&mut board, &steps, &[], &mut log).unwrap();
-        decode(&input.list, &log, &mut wired).unwrap();
-        listen(&capture(&log), &mut back).unwrap();
-        assert_eq!(back, wired);
-        compared += 1;
+        wired(&input.list, &log);
     }
-    assert!(compared > 600, "only {compared} of the inputs were good");
 }
 
 /// The generated captures give records of every status, none and the most of them; some frames give none, and some are cut off.
