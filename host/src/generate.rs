@@ -373,7 +373,7 @@ fn refused(number: u8, index: usize) -> Answer {
     Err(Refusal { number, index })
 }
 
-/// Board P and one read, which the limits change in one place.
+/// Board P, one read, and a capture of one write, which the limits change in one place.
 fn good() -> Input {
     let (list, capture) = (read(1, 1).to_vec(), captures::one_write());
     Input { board: board_p(), list, steps: vec![1; 65], log: vec![1; 325], capture, ..Input::default() }
