@@ -65,22 +65,29 @@ impl Party {
         }
     }
 
-    /// One level sampled. "Own read of an implemented register: the word is captured at the 14th frame bit, with the read's effect
-    /// in that same clock. Own write: stored at the 32nd bit."
+    /// One level sampled.
     fn sample(&mut self, level: bool, phy: &mut Phy) {
+        if let Some(whole) = self.follower.hear(level) {
+            self.take(whole, phy);
+        }
+    }
+
+    /// "Own read of an implemented register: the word is captured at the 14th frame bit, with the read's effect in that same clock. Own
+    /// write: stored at the 32nd bit." Not inlined, since few clocks come here and the others are to stay fast.
+    #[inline(never)]
+    fn take(&mut self, whole: Whole, phy: &mut Phy) {
         let own = |frame| Transaction::of_frame(frame).filter(|transaction| transaction.address == phy.address);
-        match self.follower.hear(level) {
-            Some(Whole::Header(header)) => {
+        match whole {
+            Whole::Header(header) => {
                 let read = own(header).filter(|own| !own.write && phy.implements(own.register));
                 self.captured = read.map(|own| phy.read(own.register));
             }
-            Some(Whole::Frame(frame)) => {
+            Whole::Frame(frame) => {
                 self.captured = None;
                 if let Some(own) = own(frame).filter(|own| own.write) {
                     phy.write(own.register, own.data);
                 }
             }
-            None => {}
         }
     }
 }
