@@ -1,5 +1,6 @@
-/* The example of document 01 through the door: by the wire, then without one.
- * Prints the three lines of each, and fails if they differ from the document's. */
+/* The example of document 01 through the door: by the wire, without one, and
+ * read back from the wire's levels. Prints the three lines of each, and fails
+ * if they differ from the document's. */
 #include "taksherub.h"
 
 #include <stdio.h>
@@ -42,9 +43,39 @@ static int shows(const char *how, const uint8_t *answers)
     return strcmp(text, expected) == 0;
 }
 
+/* What an analyser saves of the run: the level of each clock. */
+static void capture(const uint8_t *log, uint8_t *levels)
+{
+    for (int clock = 0; clock < STEPS; clock++)
+        levels[clock] = log[clock * TAKSHERUB_LOG_RECORD] & 1;
+}
+
+/* The records in an output that was filled with 255 before the call. */
+static size_t records(const uint8_t *answers)
+{
+    size_t count = 0;
+    while (count < TAKSHERUB_MOST_RECORDS && answers[count * TAKSHERUB_ANSWER_RECORD] != 255)
+        count++;
+    return count;
+}
+
+/* Whether a capture reads back as the answers of its run, and as no more. */
+static int reads_back(const uint8_t *levels, const uint8_t *answers)
+{
+    uint8_t back[TAKSHERUB_MOST_RECORDS * TAKSHERUB_ANSWER_RECORD];
+    memset(back, 255, sizeof back);
+    if (!done("listen", taksherub_listen(levels, STEPS, back, sizeof back)))
+        return 0;
+    if (records(back) != READS) {
+        printf("read back: %u records\n", (unsigned)records(back));
+        return 0;
+    }
+    return shows("read back", back) && memcmp(back, answers, sizeof list) == 0;
+}
+
 int main(void)
 {
-    uint8_t steps[STEPS], log[LOG], wired[sizeof list], plainly[sizeof list];
+    uint8_t steps[STEPS], log[LOG], levels[STEPS], wired[sizeof list], plainly[sizeof list];
     int good = done("translate", taksherub_translate(list, sizeof list, steps, sizeof steps))
             && done("run", taksherub_run(board, sizeof board, steps, sizeof steps, events, sizeof events, log, sizeof log))
             && done("decode", taksherub_decode(list, sizeof list, log, sizeof log, wired, sizeof wired))
@@ -53,5 +84,7 @@ int main(void)
         return 1;
     int by_wire = shows("by the wire", wired);
     int without = shows("without a wire", plainly);
-    return by_wire && without ? 0 : 1;
+    capture(log, levels);
+    int back = reads_back(levels, wired);
+    return by_wire && without && back ? 0 : 1;
 }

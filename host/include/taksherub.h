@@ -10,9 +10,9 @@
  * A refusal writes nothing. Success writes the whole result from the output's
  * start; the bytes behind it stay as they were.
  *
- * The first refusal that holds is given, in this order: board, list or steps,
- * events, 13, 10. In a file: 1, then 2, then the records in order, each
- * checked by rising number.
+ * The first refusal that holds is given, in this order: board, list or steps
+ * or capture, events, 13, 10. In a file: 1, then 2, then the records in order,
+ * each checked by rising number.
  *
  *     board   1  length is no whole number of 134-byte records
  *             2  more than 32 records
@@ -27,6 +27,8 @@
  *             7  op not 1 (write) or 2 (read)
  *     steps   2  more than 4160 steps
  *            11  a step over 3 (the index is the step's)
+ *     capture 2  more than 4160 bytes
+ *            16  a byte over 1 (the index is the byte's)
  *     events  1  length is no whole number of 4-byte records
  *             2  more than 256 records
  *             8  code not 1 to 7, or address not on the board
@@ -55,6 +57,13 @@
 #define TAKSHERUB_LOG_RECORD 5
 #define TAKSHERUB_CLOCKS 65 /* clocks, and so steps, of a transaction */
 #define TAKSHERUB_LOG_PART (TAKSHERUB_CLOCKS * TAKSHERUB_LOG_RECORD)
+
+/* The most clocks of a run or a capture. */
+#define TAKSHERUB_MOST_CLOCKS 4160
+
+/* The most records that taksherub_listen finds: frames of 32 bits after 32
+ * ones each, with no idle clock. One more than a list can have. */
+#define TAKSHERUB_MOST_RECORDS 65
 
 #ifdef __cplusplus
 extern "C" {
@@ -98,6 +107,22 @@ uint64_t taksherub_plain(const uint8_t *board, size_t board_len,
                          const uint8_t *list, size_t list_len,
                          const uint8_t *events, size_t events_len,
                          uint8_t *answers, size_t answers_len);
+
+/* Reads answers back out of a capture: the levels of the wire as an analyser
+ * saves them, one byte for each clock, 0 or 1. It needs neither board nor list.
+ * It follows frames as a PHY does: it starts with 0 ones, hunts with 32, and a
+ * frame runs 32 bits. A frame with start 01 and op 01 (write) or 10 (read), to
+ * any address, gives a record: of a write with the data seen, of a read by the
+ * levels, as decode does. Other frames, and one that is cut off at the end,
+ * give nothing. The levels of the run of a translated list give the answers
+ * that decode gives.
+ * Result: 6 bytes for each record found, an answer record as above: at most
+ * TAKSHERUB_MOST_RECORDS of them, 390 bytes. The call does not say how many.
+ * Where you do not know, fill the output with 255 before, which is no status:
+ * the records end where a status is still 255.
+ * Refusals in order: the capture's 2, then 16 by byte; 10. */
+uint64_t taksherub_listen(const uint8_t *levels, size_t levels_len,
+                          uint8_t *answers, size_t answers_len);
 
 #ifdef __cplusplus
 }

@@ -1,5 +1,6 @@
-//! The four calls of the door as a table of functions, so that any two builds of them can be held against each other.
+//! The five calls of the door as a table of functions, so that any two builds of them can be held against each other.
 
+use crate::model::listener::heard;
 use crate::model::records::{Transaction, ANSWER_RECORD, LIST_RECORD, LOG_RECORD};
 use crate::model::{self, Board, Refusal};
 
@@ -14,6 +15,7 @@ pub struct Calls {
     pub run: Machine,
     pub decode: fn(list: &[u8], log: &[u8], answers: &mut [u8]) -> Answer,
     pub plain: Machine,
+    pub listen: fn(capture: &[u8], answers: &mut [u8]) -> Answer,
 }
 
 /// The independent model.
@@ -22,6 +24,7 @@ pub const MODEL: Calls = Calls {
     run: |board, steps, events, log| model::run(&mut Board::load(board)?, steps, events, log),
     decode: model::decode,
     plain: |board, list, events, answers| model::plain(&mut Board::load(board)?, list, events, answers),
+    listen: model::listen,
 };
 
 /// The files of one call, those it does not take unused, and the length of its output.
@@ -32,6 +35,7 @@ pub struct Input {
     pub steps: Vec<u8>,
     pub events: Vec<u8>,
     pub log: Vec<u8>,
+    pub capture: Vec<u8>,
     pub room: usize,
 }
 
@@ -41,10 +45,11 @@ pub enum Call {
     Run,
     Decode,
     Plain,
+    Listen,
 }
 
 impl Call {
-    pub const ALL: [Call; 4] = [Call::Translate, Call::Run, Call::Decode, Call::Plain];
+    pub const ALL: [Call; 5] = [Call::Translate, Call::Run, Call::Decode, Call::Plain, Call::Listen];
 
     /// The bytes of the full result, if the input is good.
     pub fn full_size(self, input: &Input) -> usize {
@@ -53,6 +58,7 @@ impl Call {
             Call::Translate => transactions * Transaction::CLOCKS,
             Call::Run => input.steps.len() * LOG_RECORD,
             Call::Decode | Call::Plain => transactions * ANSWER_RECORD,
+            Call::Listen => heard(&input.capture).count() * ANSWER_RECORD,
         }
     }
 
@@ -65,12 +71,13 @@ impl Call {
     }
 
     pub fn answer(self, calls: &Calls, input: &Input, output: &mut [u8]) -> Answer {
-        let Input { board, list, steps, events, log, .. } = input;
+        let Input { board, list, steps, events, log, capture, .. } = input;
         match self {
             Call::Translate => (calls.translate)(list, output),
             Call::Run => (calls.run)(board, steps, events, output),
             Call::Decode => (calls.decode)(list, log, output),
             Call::Plain => (calls.plain)(board, list, events, output),
+            Call::Listen => (calls.listen)(capture, output),
         }
     }
 }

@@ -1,4 +1,4 @@
-//! Two builds of the four calls on the same inputs: the same answer and the same bytes, past the result and after a refusal too.
+//! Two builds of the five calls on the same inputs: the same answer and the same bytes, past the result and after a refusal too.
 
 use crate::calls::{Answer, Call, Calls, Input};
 use crate::generate;
@@ -47,9 +47,10 @@ pub fn compare(call: Call, left: &Calls, right: &Calls, input: &Input) -> Result
 
 /// The input's files in hex digits, so that a difference can be tried again by hand.
 fn describe(input: &Input) -> String {
-    let Input { board, list, steps, events, log, room } = input;
+    let Input { board, list, steps, events, log, capture, room } = input;
     let mut text = format!("output of {room} bytes");
-    for (name, file) in [("board", board), ("list", list), ("steps", steps), ("events", events), ("log", log)] {
+    let files = [("board", board), ("list", list), ("steps", steps), ("events", events), ("log", log), ("capture", capture)];
+    for (name, file) in files {
         let digits: String = file.iter().map(|byte| format!("{byte:02x}")).collect();
         text += &format!("\n{name}, {} bytes: {digits}", file.len());
     }
@@ -64,16 +65,18 @@ pub enum Part {
     Steps,
     Events,
     Log,
+    Capture,
     Output,
 }
 
 /// The numbers that each part can be refused by.
-const NUMBERS: [(Part, &[u8]); 6] = [
+const NUMBERS: [(Part, &[u8]); 7] = [
     (Part::Board, &[1, 2, 3, 4, 5, 6]),
     (Part::List, &[1, 2, 3, 7]),
     (Part::Steps, &[2, 11]),
     (Part::Events, &[1, 2, 8, 9]),
     (Part::Log, &[13]),
+    (Part::Capture, &[2, 16]),
     (Part::Output, &[10]),
 ];
 
@@ -83,6 +86,7 @@ fn parts(call: Call) -> &'static [Part] {
         Call::Run => &[Part::Board, Part::Steps, Part::Events, Part::Output],
         Call::Decode => &[Part::List, Part::Log, Part::Output],
         Call::Plain => &[Part::Board, Part::List, Part::Events, Part::Output],
+        Call::Listen => &[Part::Capture, Part::Output],
     }
 }
 
@@ -108,6 +112,7 @@ fn at_fault(call: Call, input: &Input, number: u8) -> (Part, usize) {
         Part::Board => input.board.len() / BOARD_RECORD,
         Part::List => input.list.len() / LIST_RECORD,
         Part::Steps => input.steps.len(),
+        Part::Capture => input.capture.len(),
         Part::Events => input.events.len() / EVENT_RECORD,
         Part::Log | Part::Output => 0,
     };
@@ -177,25 +182,26 @@ impl Tally {
 
 impl fmt::Display for Tally {
     fn fmt(&self, f: &mut fmt::Formatter) -> fmt::Result {
-        let by_number = |number| {
-            self.refused.iter().filter(|((_, n), _)| *n == number).map(|(_, met)| met.iter().sum::<usize>()).sum::<usize>()
-        };
-        let refused: usize = (1..=13).map(by_number).sum();
+        let mut by_number = BTreeMap::new();
+        for ((_, number), met) in &self.refused {
+            *by_number.entry(number).or_default() += met.iter().sum::<usize>();
+        }
+        let refused: usize = by_number.values().sum();
         let name = format!("{:?}", self.call).to_lowercase();
         write!(f, "{name}: {} inputs, {} accepted; refused by number:", self.accepted + refused, self.accepted)?;
-        for number in (1..=13).filter(|&number| by_number(number) > 0) {
-            write!(f, " {number}: {},", by_number(number))?;
+        for (number, times) in by_number {
+            write!(f, " {number}: {times},")?;
         }
         writeln!(f, " in all {refused}")?;
         for (part, number) in self.reachable() {
             let [first, middle, last] = self.met(part, number);
             let part = format!("{part:?}").to_lowercase();
             if of_the_whole(number) {
-                writeln!(f, "    {part:<6} {number:>2}  {first:>6}")?;
+                writeln!(f, "    {part:<7} {number:>2}  {first:>6}")?;
             } else {
                 writeln!(
                     f,
-                    "    {part:<6} {number:>2}  {first:>6} at the first record, {middle:>5} at a middle one, {last:>5} at the last"
+                    "    {part:<7} {number:>2}  {first:>6} at the first record, {middle:>5} at a middle one, {last:>5} at the last"
                 )?;
             }
         }
@@ -232,13 +238,14 @@ pub fn compare_all(left: &Calls, right: &Calls, count: usize) -> Result<Vec<Tall
 mod tests {
     use super::*;
     use crate::calls::MODEL;
+    use crate::model::listener::heard;
 
     const COUNT: usize = 5_000;
 
     #[test]
     fn the_model_agrees_with_itself_and_every_refusal_is_met() {
         let tallies = compare_all(&MODEL, &MODEL, COUNT);
-        assert_eq!(tallies.map(|tallies| tallies.len()), Ok(4));
+        assert_eq!(tallies.map(|tallies| tallies.len()), Ok(5));
     }
 
     /// A build that is wrong on purpose must be caught, on either side.
@@ -255,18 +262,24 @@ mod tests {
     fn the_one_that_refuses_all_is_caught() {
         caught(Calls { run: refuse_all, ..MODEL });
         caught(Calls { plain: refuse_all, ..MODEL });
+        caught(Calls { listen: |capture, answers| refuse_all(capture, &[], &[], answers), ..MODEL });
     }
 
     #[test]
     fn the_one_that_leaves_the_output_untouched_is_caught() {
         caught(Calls { translate: |list, steps| (MODEL.translate)(list, &mut steps.to_vec()), ..MODEL });
         caught(Calls { decode: |list, log, answers| (MODEL.decode)(list, log, &mut answers.to_vec()), ..MODEL });
+        caught(Calls { listen: |capture, answers| (MODEL.listen)(capture, &mut answers.to_vec()), ..MODEL });
     }
 
     #[test]
     fn an_invented_index_is_caught() {
         caught(Calls {
             translate: |list, steps| (MODEL.translate)(list, steps).map_err(|refusal| Refusal { index: 0, ..refusal }),
+            ..MODEL
+        });
+        caught(Calls {
+            listen: |capture, answers| (MODEL.listen)(capture, answers).map_err(|refusal| Refusal { index: 0, ..refusal }),
             ..MODEL
         });
     }
@@ -329,6 +342,53 @@ mod tests {
                 (MODEL.run)(board, steps, events, log)?;
                 let later = 325.min(steps.len() * LOG_RECORD)..steps.len() * LOG_RECORD;
                 log[later].iter_mut().skip(4).step_by(LOG_RECORD).for_each(|low| *low = 0);
+                Ok(())
+            },
+            ..MODEL
+        });
+    }
+
+    /// A listener that refuses as it should, and hears other levels than the capture's.
+    fn mishears(levels: &[u8], capture: &[u8], answers: &mut [u8]) -> Answer {
+        (MODEL.listen)(capture, &mut answers.to_vec())?;
+        let records: Vec<_> = heard(levels).collect();
+        answers.iter_mut().zip(records.as_flattened()).for_each(|(byte, heard)| *byte = *heard);
+        Ok(())
+    }
+
+    #[test]
+    fn a_listener_that_starts_with_one_1_is_caught() {
+        caught(Calls { listen: |capture, answers| mishears(&[&[1], capture].concat(), capture, answers), ..MODEL });
+    }
+
+    #[test]
+    fn a_listener_that_ends_a_frame_a_clock_early_or_late_is_caught() {
+        caught(Calls { listen: |capture, answers| mishears(&[capture, &[1]].concat(), capture, answers), ..MODEL });
+        let late = |capture: &[u8], answers: &mut [u8]| mishears(&capture[..capture.len().saturating_sub(1)], capture, answers);
+        caught(Calls { listen: late, ..MODEL });
+    }
+
+    #[test]
+    fn a_listener_of_no_more_records_than_a_list_has_is_caught() {
+        caught(Calls {
+            listen: |capture, answers| {
+                let before = answers.to_vec();
+                (MODEL.listen)(capture, answers)?;
+                answers.iter_mut().zip(before).skip(MOST_TRANSACTIONS * ANSWER_RECORD).for_each(|(byte, before)| *byte = before);
+                Ok(())
+            },
+            ..MODEL
+        });
+    }
+
+    #[test]
+    fn a_silent_read_with_data_is_caught() {
+        caught(Calls {
+            listen: |capture, answers| {
+                (MODEL.listen)(capture, answers)?;
+                let full = Call::Listen.full_size(&Input { capture: capture.to_vec(), ..Input::default() });
+                let silent = answers[..full].as_chunks_mut::<ANSWER_RECORD>().0.iter_mut().filter(|answer| answer[0] == 2);
+                silent.for_each(|answer| answer[4..].fill(0xFF));
                 Ok(())
             },
             ..MODEL

@@ -33,6 +33,7 @@ extern "C" {
         answers: *mut u8,
         answers_len: usize,
     ) -> u64;
+    fn taksherub_listen(levels: *const u8, levels_len: usize, answers: *mut u8, answers_len: usize) -> u64;
 }
 
 /// "0 when done, else number * 65536 + index".
@@ -83,5 +84,9 @@ pub fn plain(board: &[u8], list: &[u8], events: &[u8], answers: &mut [u8]) -> An
     })
 }
 
+pub fn listen(capture: &[u8], answers: &mut [u8]) -> Answer {
+    answer(unsafe { taksherub_listen(capture.as_ptr(), capture.len(), answers.as_mut_ptr(), answers.len()) })
+}
+
 /// The proved code as a table.
-pub const DOOR: Calls = Calls { translate, run, decode, plain };
+pub const DOOR: Calls = Calls { translate, run, decode, plain, listen };

@@ -1,7 +1,9 @@
-//! Inputs for the four calls: good ones of many kinds, damaged ones, and both sides of every limit.
+//! Inputs for the five calls: good ones of many kinds, damaged ones, and both sides of every limit.
 
-use crate::calls::Call::{Decode, Plain, Run, Translate};
-use crate::calls::{Answer, Call, Input, MODEL};
+mod captures;
+
+use crate::calls::Call::{Decode, Listen, Plain, Run, Translate};
+use crate::calls::{Answer, Call, Input};
 use crate::make::{self, board_p, event, phy, read};
 use crate::model::phy::{derived_control, status};
 use crate::model::records::*;
@@ -15,6 +17,9 @@ pub fn input(random: &mut Random, call: Call) -> Input {
     input.events = events(random, &input.board, call.last_clock(&input));
     if call == Decode {
         input.log = log(random, &input);
+    }
+    if call == Listen {
+        input.capture = captures::capture(random, &input);
     }
     while random.one_in(2) {
         damage(random, call, &mut input);
@@ -171,7 +176,7 @@ fn stray_frames(random: &mut Random, board: &[u8], steps: &mut [u8]) {
         let any = random.below(16) as u32;
         let start_and_op = random.pick(&[0b0110, 0b0110, 0b0110, 0b0101, 0b0100, 0b0111, any]);
         let header = start_and_op << 10 | u32::from(address(random, board)) << 5 | u32::from(register(random));
-        frame.extend((0..14).rev().map(|bit| (header >> bit & 1) as u8));
+        frame.extend(make::bits(header, 14));
         let tail = random.pick(&[[2, 3], [0, 1], [1, 3]]);
         frame.extend((0..18).map(|_| random.pick(&tail)));
         frame.truncate(if random.one_in(5) { random.below(frame.len() + 1) } else { frame.len() });
@@ -184,12 +189,10 @@ fn stray_frames(random: &mut Random, board: &[u8], steps: &mut [u8]) {
 
 /// A log of the list's length: of a run, the same with levels changed, or any bytes.
 fn log(random: &mut Random, input: &Input) -> Vec<u8> {
-    let steps = make::steps(&input.list);
-    let mut log = vec![0; steps.len() * LOG_RECORD];
+    let mut log = make::log(&input.board, &make::steps(&input.list), &[]);
     match random.below(4) {
         0 => log.iter_mut().for_each(|byte| *byte = random.byte()),
         kind => {
-            (MODEL.run)(&input.board, &steps, &[], &mut log).expect("board and steps are good");
             for _ in 0..if log.is_empty() { 0 } else { kind * kind } {
                 let at = random.below(log.len());
                 log[at] ^= 1 << random.below(8);
@@ -204,7 +207,8 @@ fn damage(random: &mut Random, call: Call, input: &mut Input) {
     match (call, random.below(3)) {
         (Run | Plain, 0) => damage_board(random, &mut input.board),
         (Run | Plain, 1) => damage_events(random, &mut input.events, &input.board, last_clock),
-        (Run, _) => damage_steps(random, &mut input.steps),
+        (Run, _) => damage_clocks(random, &mut input.steps, 2, &[4, 5, 0x80, 0xFF]),
+        (Listen, _) => damage_clocks(random, &mut input.capture, 1, &[2, 3, 0x80, 0xFF]),
         (Decode, 0) => damage_log(random, &mut input.log),
         _ => damage_list(random, &mut input.list),
     }
@@ -333,13 +337,14 @@ fn damage_events(random: &mut Random, file: &mut Vec<u8>, board: &[u8], last_clo
     }
 }
 
-fn damage_steps(random: &mut Random, steps: &mut Vec<u8>) {
-    if steps.is_empty() || random.one_in(4) {
-        steps.resize(MOST_STEPS + random.below(3), 2);
+/// Steps or a capture, too long by idle clocks, or with a byte over the most.
+fn damage_clocks(random: &mut Random, bytes: &mut Vec<u8>, idle: u8, over: &[u8]) {
+    if bytes.is_empty() || random.one_in(4) {
+        bytes.resize(MOST_STEPS + random.below(3), idle);
     }
     if random.one_in(2) {
-        let at = place(random, steps.len());
-        steps[at] = random.pick(&[4, 5, 0x80, 0xFF]);
+        let at = place(random, bytes.len());
+        bytes[at] = random.pick(over);
     }
 }
 
@@ -361,16 +366,17 @@ pub struct Limit {
 /// Both sides of every limit.
 pub fn limits() -> Vec<Limit> {
     let parts = [counts_of_the_list(), counts_of_board_and_events(), steps_and_log(), addresses(), last_clocks(), rooms()];
-    parts.into_iter().flatten().collect()
+    parts.into_iter().flatten().chain(captures::limits()).collect()
 }
 
 fn refused(number: u8, index: usize) -> Answer {
     Err(Refusal { number, index })
 }
 
-/// Board P and one read, which the limits change in one place.
+/// Board P, one read, and a capture of one write, which the limits change in one place.
 fn good() -> Input {
-    Input { board: board_p(), list: read(1, 1).to_vec(), steps: vec![1; 65], log: vec![1; 325], ..Input::default() }
+    let (list, capture) = (read(1, 1).to_vec(), captures::one_write());
+    Input { board: board_p(), list, steps: vec![1; 65], log: vec![1; 325], capture, ..Input::default() }
 }
 
 /// The same input for some calls, with output for the full result.

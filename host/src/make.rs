@@ -1,7 +1,9 @@
-//! Records from values, and steps from records, for tests and measurements.
+//! Records from values, steps from records, logs and captures, for tests and measurements.
 
-use crate::model::records::{Transaction, LIST_RECORD};
+use crate::calls::MODEL;
+use crate::model::records::{Transaction, LIST_RECORD, LOG_RECORD};
 use crate::model::translate;
+use crate::model::wire::LEVEL;
 
 /// A board record.
 pub fn phy(address: u8, implemented: u32, defaults: &[(usize, u16)], write_masks: &[(usize, u16)]) -> Vec<u8> {
@@ -44,4 +46,26 @@ pub fn steps(list: &[u8]) -> Vec<u8> {
     let mut steps = vec![0; list.len() / LIST_RECORD * Transaction::CLOCKS];
     translate(list, &mut steps).expect("the list is good");
     steps
+}
+
+/// The log of a good run.
+pub fn log(board: &[u8], steps: &[u8], events: &[u8]) -> Vec<u8> {
+    let mut log = vec![0; steps.len() * LOG_RECORD];
+    (MODEL.run)(board, steps, events, &mut log).expect("board, steps and events are good");
+    log
+}
+
+/// What the analyser saves of a run: the level of each clock in its log.
+pub fn capture(log: &[u8]) -> Vec<u8> {
+    log.iter().step_by(LOG_RECORD).map(|flags| flags & LEVEL).collect()
+}
+
+/// The last bits of a word, high bit first.
+pub fn bits(word: u32, count: u32) -> impl Iterator<Item = u8> {
+    (0..count).rev().map(move |bit| (word >> bit & 1) as u8)
+}
+
+/// The levels of a frame after some ones.
+pub fn levels(ones: usize, frame: u32) -> Vec<u8> {
+    std::iter::repeat_n(1, ones).chain(bits(frame, 32)).collect()
 }

@@ -1,6 +1,9 @@
-//! The bench as document 01 describes it: its files, the PHY, the wire, and the plain machine that has no wire.
+//! The bench as document 01 describes it: its files, the PHY, the wire, the plain machine that has no wire, and E1's listener.
 
 pub mod board;
+pub mod follower;
+mod frame;
+pub mod listener;
 pub mod phy;
 pub mod plain;
 pub mod program;
@@ -11,7 +14,8 @@ pub mod wire;
 mod tests;
 
 pub use board::Board;
+pub use listener::listen;
 pub use plain::plain;
-pub use program::program;
+pub use program::{program, read_back};
 pub use records::Refusal;
 pub use wire::{decode, run, translate};

@@ -1,36 +1,86 @@
 //! The model against itself, and against the examples' expected text.
 
 use std::fs;
-use std::path::Path;
-use taksherub_host::calls::{Call, Calls, MODEL};
+use std::path::{Path, PathBuf};
+use taksherub_host::calls::{Call, Input, MODEL};
 use taksherub_host::draw::draw;
 use taksherub_host::generate;
-use taksherub_host::make::{board_p, read, steps, write};
-use taksherub_host::model::program;
+use taksherub_host::make::{board_p, capture, log, read, steps, write};
+use taksherub_host::model::follower::{Follower, Whole, PREAMBLE};
+use taksherub_host::model::listener::heard;
 use taksherub_host::model::wire::{CONTENTION, STATION};
+use taksherub_host::model::{decode, listen, program, read_back, run, Board};
 use taksherub_host::random::Random;
 
-/// From a fresh load, the answers by the wire are those of the plain machine.
+/// Inputs that the plain machine takes, out of so many, and its answers.
+fn good_inputs(seed: u64, count: usize) -> Vec<(Input, Vec<u8>)> {
+    let mut random = Random::new(seed);
+    let mut good = Vec::new();
+    for _ in 0..count {
+        let input = generate::input(&mut random, Call::Plain);
+        let mut answers = vec![0; input.list.len()];
+        if (MODEL.plain)(&input.board, &input.list, &input.events, &mut answers).is_ok() {
+            good.push((input, answers));
+        }
+    }
+    assert!(good.len() * 10 > count * 3, "only {} of {count} inputs were good", good.len());
+    good
+}
+
+/// The answers to a list by the levels of its log, which the listener must read back.
+fn wired(list: &[u8], log: &[u8]) -> Vec<u8> {
+    let (mut answers, mut back) = (vec![8; list.len()], vec![9; list.len()]);
+    decode(list, log, &mut answers).unwrap();
+    listen(&capture(log), &mut back).unwrap();
+    assert_eq!(back, answers);
+    answers
+}
+
+/// From a fresh load, the answers by the wire are those of the plain machine, and its levels read back as these.
 #[test]
 fn both_machines_agree() {
-    let Calls { run, decode, plain, .. } = MODEL;
-    let mut random = Random::new(3);
-    let mut compared = 0;
-    for _ in 0..10_000 {
-        let input = generate::input(&mut random, Call::Plain);
-        let transactions = input.list.len() / 6;
-        let (mut plainly, mut wired) = (vec![0; 6 * transactions], vec![9; 6 * transactions]);
-        if plain(&input.board, &input.list, &input.events, &mut plainly).is_err() {
+    for (input, plainly) in good_inputs(3, 10_000) {
+        let log = log(&input.board, &steps(&input.list), &input.events);
+        assert_eq!(wired(&input.list, &log), plainly);
+        assert!(log.iter().step_by(5).all(|flags| flags & CONTENTION == 0), "a translated list shows no contention");
+    }
+}
+
+/// "From a hunting board": the levels of a second run, of a board that hunts and is not fresh, read back too.
+#[test]
+fn a_second_run_reads_back() {
+    for (input, _) in good_inputs(5, 2_000) {
+        let steps = steps(&input.list);
+        let mut log = vec![9; 5 * steps.len()];
+        let mut board = Board::load(&input.board).unwrap();
+        run(&mut board, &steps, &input.events, &mut log).unwrap();
+        run(&mut board, &steps, &[], &mut log).unwrap();
+        wired(&input.list, &log);
+    }
+}
+
+/// The generated captures give records of every status, none and the most of them; some frames give none, and some are cut off.
+#[test]
+fn generated_captures_are_rich() {
+    let mut random = Random::new(6);
+    let (mut by_status, mut none, mut most, mut other_frames, mut cut_off) = ([0; 3], 0, 0, 0, 0);
+    for _ in 0..5_000 {
+        let input = generate::input(&mut random, Call::Listen);
+        if (MODEL.listen)(&input.capture, &mut [0; 390]).is_err() {
             continue;
         }
-        let mut log = vec![9; 325 * transactions];
-        run(&input.board, &steps(&input.list), &input.events, &mut log).unwrap();
-        decode(&input.list, &log, &mut wired).unwrap();
-        assert_eq!(wired, plainly);
-        assert!(log.iter().step_by(5).all(|flags| flags & CONTENTION == 0), "a translated list shows no contention");
-        compared += 1;
+        let records: Vec<_> = heard(&input.capture).collect();
+        records.iter().for_each(|record| by_status[usize::from(record[0])] += 1);
+        none += usize::from(records.is_empty() && input.capture.len() > 64);
+        most += usize::from(records.len() == 65);
+        let mut follower = Follower::hunting(PREAMBLE);
+        let whole = |level: &&u8| matches!(follower.hear(**level == 1), Some(Whole::Frame(_)));
+        other_frames += input.capture.iter().filter(whole).count() - records.len();
+        cut_off += usize::from(follower.bits() > 0);
     }
-    assert!(compared > 3_000, "only {compared} of the inputs were good");
+    println!("records by status {by_status:?}, captures of none {none} and of the most {most}");
+    println!("other frames {other_frames}, captures that end inside a frame {cut_off}");
+    assert!(by_status.iter().all(|&count| count > 2_000) && none > 100 && most > 10 && other_frames > 500 && cut_off > 100);
 }
 
 /// The generated runs show answers and contention. Two PHYs never drive at once, whatever the steps: from a fresh load all that are
@@ -56,22 +106,39 @@ fn generated_runs_are_rich() {
     assert_eq!(two_phys, 0);
 }
 
-/// Every example tray prints what it says it does.
+fn examples() -> PathBuf {
+    Path::new(env!("CARGO_MANIFEST_DIR")).join("../examples")
+}
+
+/// Every example, a tray or a capture, prints what it says it does.
 #[test]
 fn examples_print_what_is_expected() {
-    let examples = Path::new(env!("CARGO_MANIFEST_DIR")).join("../examples");
-    let mut trays = 0;
-    for entry in fs::read_dir(examples).unwrap() {
-        let tray = entry.unwrap().path();
-        if !tray.is_dir() {
+    let (mut trays, mut captures) = (0, 0);
+    for entry in fs::read_dir(examples()).unwrap() {
+        let folder = entry.unwrap().path();
+        if !folder.is_dir() {
             continue;
         }
-        let file = |name: &str| fs::read(tray.join(name)).unwrap();
-        let expected = String::from_utf8(file("expected")).unwrap();
-        assert_eq!(program(&file("board.rec"), &file("list.rec"), &file("events.rec")), expected, "{}", tray.display());
-        trays += 1;
+        let file = |name: &str| fs::read(folder.join(name)).unwrap();
+        let printed = if folder.join("capture.rec").exists() {
+            captures += 1;
+            read_back(&file("capture.rec"))
+        } else {
+            trays += 1;
+            program(&file("board.rec"), &file("list.rec"), &file("events.rec"))
+        };
+        assert_eq!(printed, String::from_utf8(file("expected")).unwrap(), "{}", folder.display());
     }
-    assert!(trays >= 6, "{trays} trays");
+    assert!(trays >= 6 && captures >= 3, "{trays} trays, {captures} captures");
+}
+
+/// `capture-40` is the capture of the run of `tray-40`, and reads back as what is printed for that tray.
+#[test]
+fn the_example_capture_is_that_of_the_tray() {
+    let file = |name: &str| fs::read(examples().join(name)).unwrap();
+    let log = log(&file("tray-40/board.rec"), &steps(&file("tray-40/list.rec")), &file("tray-40/events.rec"));
+    assert_eq!(file("capture-40/capture.rec"), capture(&log));
+    assert_eq!(file("capture-40/expected"), file("tray-40/expected"));
 }
 
 /// The drawings of docs/BENCH.md are the wire's.
@@ -79,8 +146,8 @@ fn examples_print_what_is_expected() {
 fn the_bench_page_draws_the_wire() {
     let page = fs::read_to_string(Path::new(env!("CARGO_MANIFEST_DIR")).join("../docs/BENCH.md")).unwrap();
     let list = [write(3, 0, 0x1200), read(1, 1), read(2, 0)].concat();
-    let (steps, mut log) = (steps(&list), [9; 3 * 325]);
-    (MODEL.run)(&board_p(), &steps, &[], &mut log).unwrap();
+    let steps = steps(&list);
+    let log = log(&board_p(), &steps, &[]);
     for (steps, log) in steps.chunks(65).zip(log.chunks(325)) {
         let drawing = draw(steps, log);
         assert!(page.contains(&format!("```\n{drawing}```\n")), "the page lacks\n{drawing}");

@@ -1,40 +1,70 @@
-//! A run of 64 transactions on 32 PHYs, 4,160 clocks: the proved code through the door against the model, round by round.
+//! The proved code through the door against the model, round by round: a run of 64 transactions on 32 PHYs, 4,160 clocks, and its
+//! capture read back.
 
 use std::hint::black_box;
 use std::time::Instant;
-use taksherub_host::calls::{Machine, MODEL};
+use taksherub_host::calls::{Calls, MODEL};
 use taksherub_host::door::DOOR;
 use taksherub_host::make::{self, event, phy, read, write};
-use taksherub_host::model::records::{LOG_RECORD, MOST_STEPS};
+use taksherub_host::model::records::{ANSWER_RECORD, LOG_RECORD, MOST_STEPS, MOST_TRANSACTIONS};
 
 const ROUNDS: usize = 200;
 const RUNS_A_ROUND: usize = 5;
+const CAPTURES_A_ROUND: usize = 50;
+
+/// Transactions a second that the door's listener has to reach.
+const GOAL: f64 = 2e6;
 
 fn main() {
+    let capture = make::capture(&run());
+    listen(&capture);
+}
+
+/// Times the run, and gives its log.
+fn run() -> Vec<u8> {
     let board: Vec<u8> = (0..32).flat_map(|address| phy(address, 0x0000000F, &[(0, 0x3000), (1, 0x7849)], &[])).collect();
     let list: Vec<u8> = (0..32).flat_map(|address| [write(address, 0, 0x1200), read(address, 1)]).flatten().collect();
     let events: Vec<u8> = (0..128).flat_map(|k| event(32 * k, (k % 32) as u8, (k % 7 + 1) as u8)).collect();
     let steps = make::steps(&list);
-
-    let mut logs = [vec![0; MOST_STEPS * LOG_RECORD], vec![0; MOST_STEPS * LOG_RECORD]];
-    let mut best = [f64::INFINITY; 2];
-    for _ in 0..ROUNDS {
-        for (side, run) in [DOOR.run, MODEL.run].into_iter().enumerate() {
-            best[side] = best[side].min(nanoseconds_a_clock(run, &board, &steps, &events, &mut logs[side]));
-        }
-    }
-    assert_eq!(logs[0], logs[1], "the two logs differ");
-    let [door, model] = best;
+    let (log, [door, model]) = in_turn(RUNS_A_ROUND, vec![0; MOST_STEPS * LOG_RECORD], |calls, log| {
+        (calls.run)(black_box(&board), black_box(&steps), black_box(&events), black_box(log)).expect("the run is good");
+    });
+    let clocks = MOST_STEPS as f64;
     println!("a clock of 32 PHYs, best of {ROUNDS} rounds of {RUNS_A_ROUND} runs of {MOST_STEPS} clocks:");
-    println!("door  {door:7.1} ns");
-    println!("model {model:7.1} ns");
+    println!("door  {:7.1} ns", door / clocks);
+    println!("model {:7.1} ns", model / clocks);
     println!("ratio {:7.2}", door / model);
+    log
 }
 
-fn nanoseconds_a_clock(run: Machine, board: &[u8], steps: &[u8], events: &[u8], log: &mut [u8]) -> f64 {
-    let start = Instant::now();
-    for _ in 0..RUNS_A_ROUND {
-        run(black_box(board), black_box(steps), black_box(events), black_box(&mut *log)).expect("the run is good");
+/// Times the listener on a capture of the most transactions.
+fn listen(capture: &[u8]) {
+    let (_, [door, model]) = in_turn(CAPTURES_A_ROUND, vec![0; MOST_TRANSACTIONS * ANSWER_RECORD], |calls, answers| {
+        (calls.listen)(black_box(capture), black_box(answers)).expect("the capture is good");
+    });
+    let [door_rate, model_rate] = [door, model].map(|time| MOST_TRANSACTIONS as f64 * 1e9 / time);
+    println!("listening, best of {ROUNDS} rounds of {CAPTURES_A_ROUND} captures of {MOST_TRANSACTIONS} transactions:");
+    println!("door  {:7.2} million transactions a second", door_rate / 1e6);
+    println!("model {:7.2} million transactions a second", model_rate / 1e6);
+    println!("ratio {:7.2} (of the times)", door / model);
+    println!("the goal of {} million is {}", GOAL / 1e6, if door_rate >= GOAL { "met" } else { "NOT met" });
+}
+
+/// The output of a call, in which both sides must agree, and its best time on each side in nanoseconds: the door's and the model's
+/// rounds in turn, so that both meet the same machine.
+fn in_turn(calls_a_round: usize, empty: Vec<u8>, call: impl Fn(&Calls, &mut [u8])) -> (Vec<u8>, [f64; 2]) {
+    let mut outputs = [empty.clone(), empty];
+    let mut best = [f64::INFINITY; 2];
+    for _ in 0..ROUNDS {
+        for (side, calls) in [DOOR, MODEL].iter().enumerate() {
+            let start = Instant::now();
+            for _ in 0..calls_a_round {
+                call(calls, &mut outputs[side]);
+            }
+            best[side] = best[side].min(start.elapsed().as_nanos() as f64 / calls_a_round as f64);
+        }
     }
-    start.elapsed().as_nanos() as f64 / (RUNS_A_ROUND * steps.len()) as f64
+    let [output, other] = outputs;
+    assert_eq!(output, other, "the two outputs differ");
+    (output, best)
 }

@@ -2,13 +2,13 @@
 
 use super::phy::{control, derived_control, status, Phy, CONTROL, EXTENDED, STATUS};
 use super::records::{records, word, Refusal, BOARD_RECORD, MOST_PHYS};
-use super::wire::Follower;
+use super::wire::Party;
 
 /// The PHYs in the file's order, and where each stands in the frames on the wire.
 #[derive(Clone, Debug, PartialEq, Eq)]
 pub struct Board {
     pub phys: Vec<Phy>,
-    pub followers: Vec<Follower>,
+    pub parties: Vec<Party>,
     /// The place of the PHY at an address, for the 32 addresses.
     places: [Option<u8>; 32],
 }
@@ -16,11 +16,11 @@ pub struct Board {
 impl Board {
     pub fn load(file: &[u8]) -> Result<Board, Refusal> {
         let records = records(file, MOST_PHYS)?;
-        let mut board = Board { phys: Vec::with_capacity(MOST_PHYS), followers: Vec::with_capacity(MOST_PHYS), places: [None; 32] };
+        let mut board = Board { phys: Vec::with_capacity(MOST_PHYS), parties: Vec::with_capacity(MOST_PHYS), places: [None; 32] };
         for (index, record) in records.iter().enumerate() {
             let phy = board.next_phy(record).map_err(|number| Refusal { number, index })?;
             board.places[usize::from(phy.address)] = Some(index as u8);
-            board.followers.push(Follower::hunting(&phy));
+            board.parties.push(Party::hunting(&phy));
             board.phys.push(phy);
         }
         Ok(board)

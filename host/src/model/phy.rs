@@ -1,5 +1,7 @@
 //! One transceiver: its registers, what writes, reads and device events do to them. Its place on the wire is in `wire`.
 
+use super::follower::PREAMBLE;
+
 /// Bits of register 0.
 pub mod control {
     pub const RESET: u16 = 1 << 15;
@@ -144,7 +146,7 @@ impl Phy {
         if self.registers[STATUS] & status::PREAMBLE_SUPPRESSION != 0 {
             1
         } else {
-            32
+            PREAMBLE
         }
     }
 

@@ -1,6 +1,7 @@
 //! What the program prints.
 
-use super::records::{list, Events, Refusal, Transaction, ANSWER_RECORD};
+use super::listener::heard;
+use super::records::{check_capture, list, Events, Refusal, Transaction, ANSWER_RECORD};
 use super::wire::answer_data;
 use super::{plain, Board};
 use std::fmt::Write;
@@ -22,6 +23,14 @@ fn answers(board_file: &[u8], list_file: &[u8], event_file: &[u8]) -> Result<Vec
     let mut answers = vec![0; count * ANSWER_RECORD];
     plain(&mut board, list_file, event_file, &mut answers).expect("every file was checked above");
     Ok(answers)
+}
+
+/// All that the program prints for a capture: the lines of the answers in it.
+pub fn read_back(capture: &[u8]) -> String {
+    match check_capture(capture) {
+        Ok(()) => lines(heard(capture).collect::<Vec<_>>().as_flattened()),
+        Err(refusal) => refused("capture", refusal),
+    }
 }
 
 /// "Ordinal, W or R, address, register (two decimal digits each), status, data (four hex digits, capitals)."

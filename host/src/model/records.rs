@@ -23,6 +23,7 @@ impl Refusal {
     pub const OUTPUT: u8 = 10;
     pub const STEP: u8 = 11;
     pub const LOG_LENGTH: u8 = 13;
+    pub const LEVEL: u8 = 16;
 
     /// A refusal of the whole file, output or log: its index is 0.
     pub fn whole(number: u8) -> Refusal {
@@ -40,6 +41,8 @@ pub const MOST_PHYS: usize = 32;
 pub const MOST_TRANSACTIONS: usize = 64;
 pub const MOST_EVENTS: usize = 256;
 pub const MOST_STEPS: usize = MOST_TRANSACTIONS * Transaction::CLOCKS;
+/// Records that a capture can give: frames of 32 bits after 32 ones each, with no idle clock.
+pub const MOST_HEARD: usize = MOST_STEPS / 64;
 
 /// The records of a file: refusal 1, then refusal 2.
 pub fn records<const SIZE: usize>(file: &[u8], most: usize) -> Result<&[[u8; SIZE]], Refusal> {
@@ -123,12 +126,22 @@ pub fn list(file: &[u8]) -> Result<impl ExactSizeIterator<Item = Transaction> + 
     Ok(records.iter().map(Transaction::of))
 }
 
-/// The steps: "over 4,160 clock steps" is 2, "clock step over 3" is 11.
-pub fn check_steps(steps: &[u8]) -> Result<(), Refusal> {
-    if steps.len() > MOST_STEPS {
+/// Bytes of one clock each: refusal 2 if they are over 4,160, else `number` for the first byte over `most`.
+fn check_clocks(bytes: &[u8], most: u8, number: u8) -> Result<(), Refusal> {
+    if bytes.len() > MOST_STEPS {
         return Err(Refusal::whole(Refusal::TOO_MANY));
     }
-    check_each(steps, |&step| if step > 3 { Err(Refusal::STEP) } else { Ok(()) })
+    check_each(bytes, |&byte| if byte > most { Err(number) } else { Ok(()) })
+}
+
+/// The steps: "over 4,160 clock steps" is 2, "clock step over 3" is 11.
+pub fn check_steps(steps: &[u8]) -> Result<(), Refusal> {
+    check_clocks(steps, 3, Refusal::STEP)
+}
+
+/// The capture: over 4,160 bytes is 2, "16 a byte over 1".
+pub fn check_capture(capture: &[u8]) -> Result<(), Refusal> {
+    check_clocks(capture, 1, Refusal::LEVEL)
 }
 
 /// The event file, checked against a board and a last clock; it is worked off clock by clock.

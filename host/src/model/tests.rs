@@ -29,7 +29,7 @@ fn reads(list: &[[u8; 6]], events: &[[u8; 4]]) -> Vec<u16> {
     exchange(&board_p(), list, events).into_iter().filter(|answer| answer.0 == 1).map(|answer| answer.1).collect()
 }
 
-fn refused<T>(number: u8, index: usize) -> Result<T, Refusal> {
+pub fn refused<T>(number: u8, index: usize) -> Result<T, Refusal> {
     Err(Refusal { number, index })
 }
 

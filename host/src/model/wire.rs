@@ -1,7 +1,8 @@
 //! The list as clock steps, the shared wire clock by clock, and the answers in its log.
 
+use super::follower::{Follower, Whole};
 use super::phy::Phy;
-use super::records::{check_steps, list, room, word, Events, Refusal, Status, Transaction, ANSWER_RECORD, LOG_RECORD};
+use super::records::{check_steps, list, room, word, Events, Refusal, Transaction, ANSWER_RECORD, LOG_RECORD};
 use super::Board;
 
 /// "Steps, one byte each: 0 drive zero, 1 drive one, 2 release, 3 release and sample."
@@ -16,13 +17,6 @@ pub const CONTENTION: u8 = 4;
 const LOG_PART: usize = Transaction::CLOCKS * LOG_RECORD;
 
 impl Transaction {
-    /// The 32 bits of its frame, start to data; of a read, the last 18 are the PHY's.
-    pub fn frame(self) -> u32 {
-        let op = if self.write { 0b01 } else { 0b10 };
-        let header = 0b01 << 12 | op << 10 | u32::from(self.address) << 5 | u32::from(self.register);
-        header << 18 | 0b10 << 16 | u32::from(self.data)
-    }
-
     /// What the station does in a clock, by its position from 1 to 65.
     fn step(self, position: usize) -> u8 {
         match position {
@@ -46,81 +40,54 @@ pub fn translate(list_file: &[u8], steps: &mut [u8]) -> Result<(), Refusal> {
     Ok(())
 }
 
-/// Where a PHY is in the stream of levels: hunting with some ones, or inside a frame with some bits.
+/// A PHY's place on the wire.
 #[derive(Clone, Copy, Debug, PartialEq, Eq)]
-pub struct Follower {
-    /// Ones seen while hunting, 0 inside a frame.
-    ones: u8,
-    /// Ones that let a 0 start a frame.
-    enough: u8,
+pub struct Party {
+    follower: Follower,
     /// The PHY's bit in the log's mask.
     address_bit: u32,
-    /// Bits of the frame seen, 0 while hunting.
-    bits: u8,
-    /// Set from the 14th bit of an own read of an implemented register on.
-    answers: bool,
-    /// The frame's bits so far.
-    frame: u32,
-    /// The captured word.
-    captured: u16,
+    /// From the 14th bit of an own read of an implemented register on: the captured word.
+    captured: Option<u16>,
 }
 
-impl Follower {
-    pub fn hunting(phy: &Phy) -> Follower {
-        let (enough, address_bit) = (phy.ones_enough(), 1 << phy.address);
-        Follower { ones: 0, enough, address_bit, bits: 0, answers: false, frame: 0, captured: 0 }
-    }
-
-    fn hunt(&mut self) {
-        *self = Follower { ones: 0, bits: 0, answers: false, frame: 0, captured: 0, ..*self };
+impl Party {
+    pub fn hunting(phy: &Phy) -> Party {
+        Party { follower: Follower::hunting(phy.ones_enough()), address_bit: 1 << phy.address, captured: None }
     }
 
     /// What the PHY does in the next clock: "released for bit 15, drives 0 for bit 16, the word for bits 17 to 32".
     fn drives(&self) -> Option<bool> {
-        if !self.answers {
-            return None;
-        }
-        match self.bits {
+        let word = self.captured?;
+        match self.follower.bits() {
             14 => None,
             15 => Some(false),
-            bits => Some(self.captured >> (31 - bits) & 1 == 1),
+            bits => Some(word >> (31 - bits) & 1 == 1),
         }
     }
 
-    /// One level sampled; the PHY's registers take part in the 14th and the 32nd bit of its own frames.
+    /// One level sampled.
     fn sample(&mut self, level: bool, phy: &mut Phy) {
-        if self.bits == 0 {
-            if level {
-                self.ones = (self.ones + 1).min(32);
-            } else if self.ones >= self.enough {
-                self.ones = 0;
-                self.bits = 1;
-            } else {
-                self.ones = 0;
-            }
-            return;
-        }
-        self.bits += 1;
-        self.frame = self.frame << 1 | u32::from(level);
-        match self.bits {
-            2 if !level => self.hunt(),
-            14 => self.header(phy),
-            32 => {
-                if self.frame >> 23 == 0b01_01 << 5 | u32::from(phy.address) {
-                    phy.write((self.frame >> 18 & 31) as u8, self.frame as u16);
-                }
-                self.hunt();
-            }
-            _ => {}
+        if let Some(whole) = self.follower.hear(level) {
+            self.take(whole, phy);
         }
     }
 
-    /// The 14th bit: "own read of an implemented register: the word is captured, with the read's effect in that same clock".
-    fn header(&mut self, phy: &mut Phy) {
-        let register = (self.frame & 31) as u8;
-        if self.frame >> 5 == 0b01_10 << 5 | u32::from(phy.address) && phy.implements(register) {
-            self.answers = true;
-            self.captured = phy.read(register);
+    /// "Own read of an implemented register: the word is captured at the 14th frame bit, with the read's effect in that same clock. Own
+    /// write: stored at the 32nd bit." Not inlined, since few clocks come here and the others are to stay fast.
+    #[inline(never)]
+    fn take(&mut self, whole: Whole, phy: &mut Phy) {
+        let own = |frame| Transaction::of_frame(frame).filter(|transaction| transaction.address == phy.address);
+        match whole {
+            Whole::Header(header) => {
+                let read = own(header).filter(|own| !own.write && phy.implements(own.register));
+                self.captured = read.map(|own| phy.read(own.register));
+            }
+            Whole::Frame(frame) => {
+                self.captured = None;
+                if let Some(own) = own(frame).filter(|own| own.write) {
+                    phy.write(own.register, own.data);
+                }
+            }
         }
     }
 }
@@ -144,15 +111,15 @@ impl Board {
         let station = step < RELEASE;
         let mut low = step == 0;
         let mut drivers = 0u32;
-        for follower in &self.followers {
-            if let Some(bit) = follower.drives() {
-                drivers |= follower.address_bit;
+        for party in &self.parties {
+            if let Some(bit) = party.drives() {
+                drivers |= party.address_bit;
                 low |= !bit;
             }
         }
         let level = !low;
-        for (follower, phy) in self.followers.iter_mut().zip(&mut self.phys) {
-            follower.sample(level, phy);
+        for (party, phy) in self.parties.iter_mut().zip(&mut self.phys) {
+            party.sample(level, phy);
         }
         let mut flags = u8::from(level);
         if station {
@@ -166,7 +133,7 @@ impl Board {
     }
 }
 
-/// "A read is answered exactly if the level at its clock 48 is 0, with the levels of clocks 49-64 as data."
+/// The answers to a list, by the levels in its log.
 pub fn decode(list_file: &[u8], log: &[u8], answers: &mut [u8]) -> Result<(), Refusal> {
     let list = list(list_file)?;
     if log.len() != list.len() * LOG_PART {
@@ -175,14 +142,8 @@ pub fn decode(list_file: &[u8], log: &[u8], answers: &mut [u8]) -> Result<(), Re
     let answers = room(answers, list.len() * ANSWER_RECORD)?;
     let parts = log.chunks_exact(LOG_PART).zip(answers.as_chunks_mut().0);
     for (transaction, (part, answer)) in list.zip(parts) {
-        let level = |clock: usize| u16::from(part[(clock - 1) * LOG_RECORD] & LEVEL);
-        *answer = if transaction.write {
-            transaction.answer(Status::Sent, transaction.data)
-        } else if level(48) == 0 {
-            transaction.answer(Status::Answered, (49..=64).fold(0, |data, clock| data << 1 | level(clock)))
-        } else {
-            transaction.answer(Status::Silent, 0)
-        };
+        let level = |clock: usize| u32::from(part[(clock - 1) * LOG_RECORD] & LEVEL);
+        *answer = transaction.decoded((48..=64).fold(0, |levels, clock| levels << 1 | level(clock)));
     }
     Ok(())
 }
