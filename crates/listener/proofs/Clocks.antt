@@ -1,84 +1,63 @@
--- One clock more of a capture: the follower moves by its level, and the record of a frame that it ends comes behind the others.
-use Prim.Native.Nat.{ℕ, _+_, _*_, _≤_, _<_}
+-- One clock of a capture: what is heard behind it, and how the follower's kind tells whether it started or ended a frame.
+use Prim.Native.Nat.{ℕ, suc, _+_, _≤_, _<_}
 use mathlib.Core.Path.{_≡_, refl, ap, sym, _∙_}
-use mathlib.Core.Bool.{Bool}
-use mathlib.Core.List.{List, [], _∷_, _++_, map, map-append, append-nil}
+use mathlib.Core.Bool.{Bool, true, false, not, _&&_, cond}
+use mathlib.Core.List.{List, [], _∷_, _++_}
 use native.Mathlib.Omega.{arith}
 use native.Mathlib.Numerals.{add-one}
-use lib.ListN.{length, getD, take, drop, length-map, length-append, take-append-drop}
-use lib.Seq.{take-all, take-suc}
-use lib.Dec.{eqb}
-use Rattle.verdict.specs.Output.{join}
-use Rattle.verdict.proofs.Lists.{join-append}
-use Rattle.frame.specs.declared.answer.Answer.{Answer}
-use Rattle.frame.specs.Answers.{answerRecord, answerBytes}
+use lib.ListN.{length, getD, drop, drop-of-length-le}
+use lib.Seq.{drop-cons}
+use lib.Dec.{leb, eqb}
 use Rattle.wire.specs.declared.Follower.{Follower}
-use Rattle.wire.specs.Follower.{follow}
-use Rattle.listener.specs.Frames.{enough, atFirst, framesEnding, framesFrom, followed}
-use Rattle.listener.specs.Records.{recordsOfAll}
-use Rattle.listener.specs.Listening.{mostLevels, levelsIn, recordsIn}
-use Rattle.listener.proofs.Frames.{frames-append, followed-append, records-append, clocks-each}
+use Rattle.wire.specs.declared.Follower.the-variants.{Hunting, Inside}
+use Rattle.wire.specs.Follower.{oneMore, follow}
+use Rattle.listener.specs.Frames.{enough, atFirst, framesEnding, framesFrom}
+use Rattle.listener.specs.Listening.{levelsIn}
+use Rattle.listener.specs.Passes.{framesBehind, started}
 
--- the bytes of records, six each
-abbrev pub bytesOf : List Answer → List ℕ
-bytesOf records = join (map answerBytes records)
+module _ (capture : List ℕ) (follower : Follower) (i : ℕ) where
+  pub nothing-behind : length capture ≤ i → framesBehind capture follower i ≡ []
+  unfolding framesBehind framesFrom
+  nothing-behind past = ap (λ rest. framesFrom follower (levelsIn rest)) (drop-of-length-le capture past)
 
-pub length-bytes : (records : List Answer) → length (bytesOf records) ≡ length records * answerRecord
-unfolding join
-length-bytes [] = refl
-length-bytes (a ∷ records) = omega (arith, length-append (answerBytes a) (bytesOf records), length-bytes records)
+  pub next-clock : i < length capture →
+      let level = eqb (getD capture i 0) 1 in
+      framesBehind capture follower i ≡ framesEnding level follower ++ framesBehind capture (follow enough level follower) (i + 1)
+  unfolding framesBehind framesFrom
+  next-clock more =
+      ap (λ rest. framesFrom follower (levelsIn rest)) (drop-cons capture i 0 more)
+      ∙ ap (λ k. framesEnding (eqb (getD capture i 0) 1) follower ++ framesFrom (follow enough (eqb (getD capture i 0) 1) follower) (levelsIn (drop k capture))) (sym (add-one i))
 
-pub bytes-append : (a b : List Answer) → bytesOf (a ++ b) ≡ bytesOf a ++ bytesOf b
-bytes-append a b = ap join (map-append answerBytes a b) ∙ join-append (map answerBytes a) (map answerBytes b)
+-- a follower is of one kind
+never : {A : Type 0} {n seen bits : ℕ} → Hunting n ≡ Inside seen bits → A
+never e = absurd (let z : _≡_ {A = ℕ} 0 1 = cc in omega arith)
 
-module _ (capture : List ℕ) where
-  -- what the first i clocks gave, and the follower after them
-  unfoldable pub sofar : ℕ → List Answer
-  sofar i = recordsIn (take i capture)
+-- a listener that hunts and finds itself inside a frame has heard the 0 of its start
+pub now-started : (level : Bool) (ones seen bits : ℕ) → follow enough level (Hunting ones) ≡ Inside seen bits → follow enough level (Hunting ones) ≡ started
+unfolding follow
+now-started true ones seen bits e = never e
+now-started false ones seen bits e = go (leb enough ones) e
+  where
+    go : (b : Bool) → cond b (Inside 1 0) (Hunting 0) ≡ Inside seen bits → cond b (Inside 1 0) (Hunting 0) ≡ started
+    go true e = refl
+    go false e = never e
 
-  unfoldable pub followerAt : ℕ → Follower
-  followerAt i = followed atFirst (levelsIn (take i capture))
+module _ (level : Bool) (seen bits : ℕ) where
+  -- one inside a frame that finds itself hunting hunts as at first
+  pub now-hunting : (ones : ℕ) → follow enough level (Inside seen bits) ≡ Hunting ones → follow enough level (Inside seen bits) ≡ atFirst
+  unfolding follow
+  now-hunting ones e = go (leb 31 seen) (not level && eqb seen 1) e
+    where
+      go : (ends wrong : Bool) → let next = cond ends (Hunting 0) (cond wrong (Hunting 0) (Inside (seen + 1) (oneMore bits level))) in next ≡ Hunting ones → next ≡ atFirst
+      go true wrong e = refl
+      go false true e = refl
+      go false false e = never (sym e)
 
-  -- all that the capture gives is what the first clocks gave, and more
-  pub sofar-within : (i : ℕ) → length (sofar i) ≤ length (recordsIn capture)
-  unfolding sofar recordsIn
-  sofar-within i =
-      let first = levelsIn (take i capture) in
-      let rest = levelsIn (drop i capture) in
-      let apart : levelsIn capture ≡ first ++ rest = ap levelsIn (sym (take-append-drop i capture)) ∙ map-append (λ byte. eqb byte 1) (take i capture) (drop i capture) in
-      let all = ap (λ levels. recordsOfAll (framesFrom atFirst levels)) apart ∙ ap recordsOfAll (frames-append atFirst first rest) ∙ records-append (framesFrom atFirst first) _ in
-      omega (arith, ap length all, length-append (recordsOfAll (framesFrom atFirst first)) (recordsOfAll (framesFrom (followed atFirst first) rest)))
-
-  pub all-sofar : (i : ℕ) → length capture ≤ i → sofar i ≡ recordsIn capture
-  unfolding sofar
-  all-sofar i past = ap recordsIn (take-all i capture past)
-
-  module _ (i : ℕ) (within : i < length capture) where
-    abbrev level : Bool
-    level = eqb (getD capture i 0) 1
-
-    next-level : levelsIn (take (i + 1) capture) ≡ levelsIn (take i capture) ++ (level ∷ [])
-    next-level =
-        ap levelsIn (ap (λ n. take n capture) (add-one i) ∙ take-suc capture i 0 within)
-        ∙ map-append (λ byte. eqb byte 1) (take i capture) (getD capture i 0 ∷ [])
-
-    pub follower-next : followerAt (i + 1) ≡ follow enough level (followerAt i)
-    unfolding followerAt followed
-    follower-next = ap (followed atFirst) next-level ∙ followed-append atFirst (levelsIn (take i capture)) (level ∷ [])
-
-    pub records-next : sofar (i + 1) ≡ sofar i ++ recordsOfAll (framesEnding level (followerAt i))
-    unfolding sofar recordsIn framesFrom followerAt
-    records-next =
-        let before = levelsIn (take i capture) in
-        ap (λ levels. recordsOfAll (framesFrom atFirst levels)) next-level
-        ∙ ap recordsOfAll (frames-append atFirst before (level ∷ []))
-        ∙ records-append (framesFrom atFirst before) (framesEnding level (followed atFirst before) ++ [])
-        ∙ ap (λ frames. recordsOfAll (framesFrom atFirst before) ++ recordsOfAll frames) (append-nil (framesEnding level (followed atFirst before)))
-
--- 64 clocks are gone for each record, so "up to 4,160" levels hold 65 at most
-pub clocks-gone : (capture : List ℕ) → 64 * length (recordsIn capture) ≤ length capture
-unfolding recordsIn
-clocks-gone capture = omega (arith, clocks-each (levelsIn capture), length-map capture (λ byte. eqb byte 1))
-
-pub most-records : (capture : List ℕ) → length capture ≤ mostLevels → length (recordsIn capture) ≤ 65
-most-records capture few = omega (arith, clocks-gone capture)
+  -- and while it is inside, no frame has ended
+  pub none-ended : (seen′ bits′ : ℕ) → follow enough level (Inside seen bits) ≡ Inside seen′ bits′ → framesEnding level (Inside seen bits) ≡ []
+  unfolding follow
+  none-ended seen′ bits′ e = go (leb 31 seen) e
+    where
+      go : (ends : Bool) → cond ends (Hunting 0) (cond (not level && eqb seen 1) (Hunting 0) (Inside (seen + 1) (oneMore bits level))) ≡ Inside seen′ bits′ → cond ends (oneMore bits level ∷ []) [] ≡ []
+      go true e = never e
+      go false e = refl

@@ -1,10 +1,10 @@
--- The frames heard in levels a, then b, are those heard in a and those that the follower which a leaves hears in b. Each takes 64 clocks, 32 ones and 32 bits, so few fit.
+-- A frame takes 64 clocks, 32 ones and 32 bits, so few fit in a capture.
 use Prim.Native.Nat.{ℕ, _+_, _*_, _≤_, min}
 use mathlib.Core.Path.{_≡_, refl, ap, sym, _∙_}
 use mathlib.Core.Bool.{Bool, true, false, not, _&&_, cond}
 use mathlib.Core.List.{List, [], _∷_, _++_, map, map-append, append-assoc}
 use native.Mathlib.Omega.{arith}
-use lib.ListN.{length, length-append}
+use lib.ListN.{length, length-append, length-map}
 use lib.Dec.{leb, eqb}
 use borrow.Author.Tests.{leb-true, leb-false}
 use Rattle.verdict.specs.Output.{join}
@@ -13,20 +13,9 @@ use Rattle.frame.specs.declared.answer.Answer.{Answer}
 use Rattle.wire.specs.declared.Follower.{Follower}
 use Rattle.wire.specs.declared.Follower.the-variants.{Hunting, Inside}
 use Rattle.wire.specs.Follower.{oneMore, follow}
-use Rattle.listener.specs.Frames.{enough, framesEnding, framesFrom, followed}
+use Rattle.listener.specs.Frames.{enough, atFirst, framesEnding, framesFrom}
 use Rattle.listener.specs.Records.{transactionIn, turnaroundIn, startsRight, isOurs, answerBy, recordsOf, recordsOfAll}
-
-pub frames-append : (f : Follower) (a b : List Bool) → framesFrom f (a ++ b) ≡ framesFrom f a ++ framesFrom (followed f a) b
-unfolding framesFrom followed
-frames-append f [] b = refl
-frames-append f (level ∷ a) b =
-    ap (λ frames. framesEnding level f ++ frames) (frames-append (follow enough level f) a b)
-    ∙ sym (append-assoc (framesEnding level f) (framesFrom (follow enough level f) a) (framesFrom (followed (follow enough level f) a) b))
-
-pub followed-append : (f : Follower) (a b : List Bool) → followed f (a ++ b) ≡ followed (followed f a) b
-unfolding followed
-followed-append f [] b = refl
-followed-append f (level ∷ a) b = followed-append (follow enough level f) a b
+use Rattle.listener.specs.Listening.{mostLevels, levelsIn, recordsIn}
 
 pub records-append : (a b : List ℕ) → recordsOfAll (a ++ b) ≡ recordsOfAll a ++ recordsOfAll b
 records-append a b = ap join (map-append recordsOf a b) ∙ join-append (map recordsOf a) (map recordsOf b)
@@ -73,6 +62,12 @@ unfolding join
 records-few [] = omega arith
 records-few (frame ∷ frames) = omega (arith, one-record frame, records-few frames, length-append (recordsOf frame) (recordsOfAll frames))
 
--- so 64 clocks are gone for each record
-pub clocks-each : (levels : List Bool) → 64 * length (recordsOfAll (framesFrom (Hunting 0) levels)) ≤ length levels
-clocks-each levels = omega (arith, records-few (framesFrom (Hunting 0) levels), frames-few (Hunting 0) levels)
+-- so 64 clocks are gone for each record, and "up to 4,160" levels hold 65 at most
+pub clocks-gone : (capture : List ℕ) → 64 * length (recordsIn capture) ≤ length capture
+unfolding recordsIn
+clocks-gone capture =
+    let levels = levelsIn capture in
+    omega (arith, records-few (framesFrom atFirst levels), frames-few atFirst levels, length-map capture (λ byte. eqb byte 1))
+
+pub most-records : (capture : List ℕ) → length capture ≤ mostLevels → length (recordsIn capture) ≤ 65
+most-records capture few = omega (arith, clocks-gone capture)

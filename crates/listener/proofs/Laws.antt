@@ -12,7 +12,7 @@ use Rattle.verdict.proofs.Checks.{passed-bytes}
 use Rattle.verdict.proofs.Outputs.{writes-unique}
 use Rattle.frame.specs.Answers.{answerRecord}
 use Rattle.listener.specs.Listening.{mostLevels, largestLevel, captureVerdict, recordsIn, listening, Listened}
-use Rattle.listener.proofs.Clocks.{most-records}
+use Rattle.listener.proofs.Frames.{most-records}
 
 -- two results that meet the promise of `listen` are equal, as are the outputs
 pub listen-unique : (capture out : List ℕ) {r s : Verdict} {out₁ out₂ : List ℕ} → Listened capture out r out₁ → Listened capture out s out₂ → (r ≡ s) × (out₁ ≡ out₂)

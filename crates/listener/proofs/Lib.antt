@@ -1,6 +1,6 @@
 pub mod Frames
 pub mod Clocks
-pub mod Pass
+pub mod Passes
 pub mod Laws
 pub mod FrameWords
 pub mod Transactions

@@ -24,8 +24,3 @@ framesEnding level (Inside seen bits) = cond (leb (frameBits - 1) seen) (oneMore
 unfoldable pub framesFrom : Follower → List Bool → List ℕ
 framesFrom follower [] = []
 framesFrom follower (level ∷ levels) = framesEnding level follower ++ framesFrom (follow enough level follower) levels
-
--- the follower after levels
-unfoldable pub followed : Follower → List Bool → Follower
-followed follower [] = follower
-followed follower (level ∷ levels) = followed (follow enough level follower) levels

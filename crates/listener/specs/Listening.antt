@@ -1,14 +1,13 @@
 -- The call `listen`. Document 02, E1: "Our analyser saves one byte per clock, 0 or 1. We want a listener that turns up to 4,160 such bytes into answer records."
-use Prim.Native.Nat.{ℕ, _*_, _≤_}
-use mathlib.Core.Path.{_≡_}
-use mathlib.Core.Bool.{Bool, true, cond}
+use Prim.Native.Nat.{ℕ, _*_}
+use mathlib.Core.Bool.{Bool}
 use mathlib.Core.List.{List, map}
 use lib.ListN.{length}
 use lib.Dec.{eqb}
 use Rattle.verdict.specs.declared.Verdict.{Verdict}
 use Rattle.verdict.specs.Refusal.{wrongLevel, andThen}
 use Rattle.verdict.specs.File.{bytesVerdict}
-use Rattle.verdict.specs.Output.{join, written, roomFor, Writes}
+use Rattle.verdict.specs.Output.{join, roomFor, Writes}
 use Rattle.frame.specs.declared.answer.Answer.{Answer}
 use Rattle.frame.specs.Answers.{answerRecord, answerBytes}
 use Rattle.machine.specs.Run.{mostSteps}
@@ -45,11 +44,3 @@ listening capture out = andThen (captureVerdict capture) (λ n. roomFor out (len
 -- what `listen` promises
 abbrev pub Listened : List ℕ → List ℕ → Verdict → List ℕ → Type 0
 Listened capture out r out′ = Writes (listening capture out) (recordBytes capture) out r out′
-
--- what one pass over the capture asks and promises: it counts the records, and where it is to write them there is room
-abbrev pub HasRoom : List ℕ → Bool → List ℕ → Type 0
-HasRoom capture writing out = writing ≡ true → length (recordsIn capture) * answerRecord ≤ length out
-
-pub record Heard (capture : List ℕ) (writing : Bool) (out : List ℕ) (r : ℕ) (out′ : List ℕ) : Type 0 where
-  pub found : r ≡ length (recordsIn capture)
-  pub output : out′ ≡ cond writing (written (recordBytes capture) out) out

@@ -9,9 +9,12 @@ use verdict::check_bytes;
 use wire::Follower;
 use wire::Header;
 ghost use mathlib.Core.Path.{_≡_};
+ghost use Prim.Native.Nat.{_≤_};
+ghost use lib.ListN.{length};
 ghost use Rattle.listener.specs.Frames.{framesEnding};
 ghost use Rattle.listener.specs.Records.{transactionIn, turnaroundIn, recordsOf, recordsOfAll, recordsGiven};
-ghost use Rattle.listener.specs.Listening.{HasRoom, Heard, Listened};
+ghost use Rattle.listener.specs.Listening.{Listened};
+ghost use Rattle.listener.specs.Passes.{Hunted, PassedOver, HasRoom, Heard};
 
 // What is saved: as many bytes as the longest run has clocks, each a level.
 pub struct Capture {}
@@ -88,19 +91,68 @@ impl Given {
     }
 }
 
-// One pass over a capture: counts the records that it gives and, where it is to write, writes them.
-fn hear(levels: &[u8], answers: &mut [u8], writing: bool) -> usize
-    requires { ⌜ HasRoom (now levels) writing (now answers) ⌝ }
-    ensures { λ r. ⌜ Heard (now (levels .entry)) writing (now (answers .entry)) r (now (answers .exit)) ⌝ }
+// The clock behind the 0 that starts the next frame, for a listener that hunts with 0 ones from a clock on; where none starts,
+// the capture's end.
+fn next_start(levels: &[u8], from: usize) -> usize
+    requires { ⌜ from ≤ length (now levels) ⌝ }
+    ensures { λ r. ⌜ Hunted (now (levels .entry)) from r ⌝ }
 {
     let mut follower = Follower::Hunting(0);
-    let mut found: usize = 0;
-    let mut i: usize = 0;
+    let mut i = from;
+    while i < levels.len() {
+        follower = follower.follow(Follower::MOST_ONES, levels[i] == 1);
+        i += 1;
+        let Follower::Hunting(_) = follower else {
+            return i;
+        };
+    }
+    i
+}
+
+// What a frame gave, and the clock behind it.
+struct Passed {
+    given: Given,
+    behind: usize,
+}
+
+// Passes over a frame of which the first 0 was heard before a clock; over the rest of the capture where it is cut off.
+fn pass_over(levels: &[u8], from: usize) -> Passed
+    requires { ⌜ from ≤ length (now levels) ⌝ }
+    ensures { λ r. ⌜ PassedOver (now (levels .entry)) from r ⌝ }
+{
+    let mut follower = Follower::Inside(1, 0);
+    let mut i = from;
     while i < levels.len() {
         let level = levels[i] == 1;
         let given = Given::by_clock(follower, level);
         follower = follower.follow(Follower::MOST_ONES, level);
         i += 1;
+        let Follower::Inside(_, _) = follower else {
+            return Passed {
+                given: given,
+                behind: i,
+            };
+        };
+    }
+    let given = Given::Nothing;
+    Passed {
+        given: given,
+        behind: i,
+    }
+}
+
+// Goes over a capture once: counts the records that it gives and, where it is to write, writes them. Hunting and passing over
+// a frame are loops of their own, in each of which the follower's kind stays: so it is not asked for at every clock.
+fn hear(levels: &[u8], answers: &mut [u8], writing: bool) -> usize
+    requires { ⌜ HasRoom (now levels) writing (now answers) ⌝ }
+    ensures { λ r. ⌜ Heard (now (levels .entry)) writing (now (answers .entry)) r (now (answers .exit)) ⌝ }
+{
+    let mut found: usize = 0;
+    let mut i: usize = 0;
+    while i < levels.len() {
+        let passed = pass_over(levels, next_start(levels, i));
+        i = passed.behind;
+        let given = passed.given;
         let Given::Record(answer) = given else {
             continue;
         };

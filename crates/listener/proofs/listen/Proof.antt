@@ -10,7 +10,7 @@ use Rattle.verdict.specs.Output.{written}
 use Rattle.verdict.proofs.Outputs.{refuses, succeeds}
 use Rattle.frame.specs.Answers.{answerRecord}
 use Rattle.listener.specs.Listening.{captureVerdict, recordsIn, recordBytes}
-use Rattle.listener.proofs.Clocks.{clocks-gone}
+use Rattle.listener.proofs.Frames.{clocks-gone}
 use borrow.Author.Needs.{needs}
 use Rattle.listener.proofs.listen.Statement.{statement}
 use Rattle.listener.proofs.listen.Tie as tie
