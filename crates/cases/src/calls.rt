@@ -2,6 +2,7 @@
 //
 //     Translate L N     the list's first L bytes into the first N of the steps
 //     Decode L G N      the list's first L bytes and the log's first G into the first N of the answers
+//     Back C N          the first C steps as a capture, read back into the first N of the answers
 //     Measure G K       how long part K of the log's first G bytes is
 //     Load N            the board file's first N bytes
 //     Check             the board
@@ -46,11 +47,20 @@ fn decode(word: Word, list: &[u8], log: &[u8], answers: &mut [u8]) {
     }
 }
 
+// A capture has a byte for each clock as the steps do, so it is made in their buffer.
+fn listen(word: Word, levels: &[u8], answers: &mut [u8]) {
+    let room = word.b as usize;
+    if room <= answers.len() {
+        text::answer(listener::listen(first(levels, word.a), &mut answers[..room]));
+    }
+}
+
 pub(crate) fn frames(word: Word, list: &List, steps: &mut Steps, log: &Log, answers: &mut Answers) {
     let letter = word.letter;
     match letter {
         b'T' => translate(word, list, steps),
         b'D' => decode(word, list, log, answers),
+        b'B' => listen(word, steps, answers),
         b'M' => text::number(frame::log_part(first(log, word.a), word.b as usize).len()),
         _ => {}
     }

@@ -34,7 +34,7 @@ fn obey(
             buffers::write(word, file, list, steps, events);
             board
         }
-        b'T' | b'D' | b'M' => {
+        b'T' | b'D' | b'B' | b'M' => {
             calls::frames(word, list, steps, log, answers);
             board
         }
