@@ -2,7 +2,6 @@
 use Prim.Native.Nat.{ℕ, _<_}
 use mathlib.Core.Path.{_≡_, refl, ap, sym, _∙_}
 use mathlib.Core.Bool.{Bool, true, false, not, _||_}
-use mathlib.Core.List.{List}
 use native.Mathlib.Omega.{arith}
 use lib.Dec.{eqb}
 use lib.ListN.{length, getD, take, length-take}
@@ -12,7 +11,6 @@ use Rattle.verdict.specs.declared.Verdict.the-variants.{Done}
 use Rattle.verdict.specs.Bits.{bit}
 use Rattle.verdict.specs.Lists.{All}
 use Rattle.verdict.proofs.Elements.{all-places, all-both}
-use Rattle.wire.specs.declared.Follower.{Follower}
 use Rattle.wire.specs.declared.Follower.the-variants.{Hunting}
 use Rattle.phy.specs.declared.Phy.{Phy}
 use Rattle.phy.specs.Abilities.{one}

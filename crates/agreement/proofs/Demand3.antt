@@ -7,7 +7,6 @@ use native.Mathlib.Nat.{div-one}
 use native.Mathlib.Decide.{decLt}
 use lib.ListN.{length, getD, List·getD-map, List·getD-eq-default}
 use Rattle.verdict.specs.File.{byteAt, records}
-use Rattle.verdict.specs.Lists.{All}
 use Rattle.verdict.proofs.Elements.{all-or, map-then}
 use Rattle.verdict.proofs.Lists.{length-tabulate}
 use Rattle.frame.specs.declared.list.Transaction.{Transaction}

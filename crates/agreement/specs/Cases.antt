@@ -5,7 +5,6 @@ use mathlib.Core.Bool.{Bool, true, false, _&&_}
 use mathlib.Core.List.{List, [], _∷_, _++_, map}
 use lib.ListN.{length, take, replicate}
 use lib.Dec.{eqb}
-use Rattle.verdict.specs.declared.Verdict.the-variants.{Done}
 use Rattle.verdict.specs.Refusal.{number}
 use Rattle.verdict.specs.Output.{join}
 use Rattle.frame.specs.List.{write, read, transactions}

@@ -11,7 +11,6 @@ use Rattle.frame.specs.Frame.{logRecord}
 use Rattle.frame.specs.List.{listVerdict, transactions}
 use Rattle.frame.specs.Steps.{translation}
 use Rattle.frame.specs.Answers.{answersIn}
-use Rattle.wire.specs.declared.Drive.{Drive}
 use Rattle.wire.specs.declared.Follower.{Follower}
 use Rattle.wire.specs.declared.Follower.the-variants.{Hunting}
 use Rattle.wire.specs.Wire.{drivers, driven}

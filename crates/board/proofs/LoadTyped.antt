@@ -13,11 +13,9 @@ use Rattle.verdict.specs.File.{byteAt, wordAt}
 use Rattle.verdict.specs.Output.{tabulate}
 use Rattle.verdict.proofs.Lists.{length-tabulate, all-tabulate}
 use Rattle.verdict.proofs.Elements.{all-or}
-use Rattle.phy.specs.declared.Phy.{Phy}
 use Rattle.phy.specs.Record.{registerCount}
 use Rattle.phy.specs.Sound.{blank, nowhere}
 use Rattle.phy.specs.Typed.{Words, Typed}
-use Rattle.board.specs.declared.Board.{Board}
 use Rattle.board.specs.Check.{places, placeAt}
 use Rattle.board.specs.Load.{boardRecord, wordsAt, phyAt, boardVerdict, boardOf, noPhys, loadedBy, loaded}
 use Rattle.board.specs.Typed.{TypedBoard}

@@ -8,7 +8,6 @@ use borrow.Author.Tests.{le-ltb}
 use Rattle.verdict.specs.declared.Verdict.the-variants.{Done}
 use Rattle.verdict.proofs.Checks.{Accepted, accepted}
 use Rattle.frame.specs.declared.list.Transaction.{Transaction}
-use Rattle.frame.specs.declared.list.Parse.{Parse}
 use Rattle.frame.specs.declared.list.Parse.the-variants.{Bad}
 use Rattle.frame.specs.declared.answer.Answer.{Answer}
 use Rattle.frame.specs.Answers.{answerRecord, answerBytes, putIn}

@@ -1,5 +1,5 @@
 -- How far hunting, a frame, and going over a whole capture have come: nothing of what is heard is lost on the way.
-use Prim.Native.Nat.{ℕ, suc, _+_, _*_, _-_, _≤_, _<_}
+use Prim.Native.Nat.{ℕ, _+_, _*_, _-_, _≤_, _<_}
 use mathlib.Core.Path.{_≡_, refl, ap, ap₂, sym, _∙_}
 use mathlib.Core.Bool.{Bool, true, false, cond}
 use mathlib.Core.List.{List, [], _∷_, _++_, map, map-append, append-nil, append-assoc}
@@ -18,9 +18,9 @@ use Rattle.wire.specs.Follower.{follow}
 use Rattle.listener.specs.declared.Given.{Given}
 use Rattle.listener.specs.declared.Given.the-variants.{Nothing, Record}
 use Rattle.listener.specs.declared.Passed.{Passed}
-use Rattle.listener.specs.Frames.{enough, atFirst, framesEnding, framesFrom}
+use Rattle.listener.specs.Frames.{enough, atFirst, framesEnding}
 use Rattle.listener.specs.Records.{recordsOfAll, recordsGiven}
-use Rattle.listener.specs.Listening.{levelsIn, recordsIn}
+use Rattle.listener.specs.Listening.{recordsIn}
 use Rattle.listener.specs.Passes.{framesBehind, recordsBehind, started, Hunted, PassedOver, HasRoom}
 use Rattle.listener.proofs.Frames.{records-append}
 use Rattle.listener.proofs.Clocks.{nothing-behind, next-clock, now-started, now-hunting, none-ended}

@@ -16,7 +16,7 @@ use Rattle.verdict.proofs.Elements.{all-or}
 use Rattle.verdict.proofs.Lists.{length-tabulate, tabulate-of, map-tabulate, all-tabulate}
 use Rattle.verdict.proofs.Outputs.{writes-unique}
 use Rattle.frame.specs.Frame.{preamble, logRecord}
-use Rattle.frame.specs.List.{listRecord, transactions, transactionAt}
+use Rattle.frame.specs.List.{listRecord, transactions, transactionAt, listVerdict}
 use Rattle.frame.specs.Steps.{translation}
 use Rattle.frame.specs.Log.{levelAt}
 use Rattle.frame.specs.Answers.{answersIn, decoding, Decoded}
@@ -25,6 +25,9 @@ use Rattle.frame.proofs.Laws.{length-translation}
 use Rattle.wire.specs.Wire.{asBit, levelOf}
 use Rattle.wire.specs.Machines.{clocksOf}
 use Rattle.board.specs.declared.Board.{Board}
+use Rattle.board.specs.Load.{loaded}
+use Rattle.board.proofs.LoadSound.{load-sound}
+use Rattle.board.proofs.LoadTyped.{load-typed}
 use Rattle.machine.specs.Run.{logOfRun, atStart}
 use Rattle.machine.specs.Plain.{answersOfPlain}
 use Rattle.machine.proofs.Lines.{bit-small}
@@ -36,6 +39,7 @@ use Rattle.agreement.proofs.Accepted.{accepted-all}
 use Rattle.agreement.proofs.Decoded.{clocks-translated}
 use Rattle.agreement.proofs.Demand3.{drives, agrees, station, log, level-run, heard-plain}
 use Rattle.agreement.proofs.ExchangeCalls.{few, steps-counted, decoding-log}
+use Rattle.agreement.proofs.ExchangeLaws.{loaded-hunts}
 use Rattle.listener.specs.Frames.{atFirst, framesFrom}
 use Rattle.listener.specs.Records.{recordsOfAll}
 use Rattle.listener.specs.Listening.{mostLevels, captureVerdict, largestLevel, levelsIn, recordsIn, listening, Listened}
@@ -139,3 +143,17 @@ listen-as-decode board list events out asked {r} {s} {out₁} listened decoded =
     let verdicts = same-verdict board list events asked out in
     let same : Decoded list (logOfRun board (translation list) events) out r out₁ = rw (verdicts, answers-back board list events asked) at listened in
     writes-unique same decoded
+
+-- a load gives hunting: so what runs on a board that was just loaded reads back
+pub loaded-read-back : (file list events : List ℕ) {n : ℕ} → ((i : ℕ) → byteAt file i < 256) → ((i : ℕ) → byteAt list i < 256) → listVerdict list ≡ Done n → ReadsBack (loaded file .board) list events
+loaded-read-back file list events {n} file-bytes bytes accepted =
+    read-back (loaded file .board) list events
+    (record {
+      typed = load-typed file file-bytes;
+      bytes = bytes;
+      phys = loaded file .board .count;
+      sound = load-sound file;
+      hunt = loaded-hunts file;
+      count = n;
+      accepted = accepted;
+    })

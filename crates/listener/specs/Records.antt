@@ -11,11 +11,9 @@ use Rattle.frame.specs.declared.answer.Turnaround.{Turnaround}
 use Rattle.frame.specs.Frame.{frameBits}
 use Rattle.frame.specs.List.{write, isRead}
 use Rattle.frame.specs.Answers.{sent, answerTo, readAnswer}
-use Rattle.wire.specs.declared.Follower.{Follower}
 use Rattle.wire.specs.Follower.{headerSeen}
 use Rattle.listener.specs.declared.Given.{Given}
 use Rattle.listener.specs.declared.Given.the-variants.{Nothing, Record}
-use Rattle.listener.specs.Frames.{framesEnding, framesFrom}
 
 -- what a frame of 32 bits says: op, address, register, and the data seen
 unfoldable pub transactionIn : ℕ → Transaction

@@ -1,5 +1,5 @@
 -- The capture's checks come first. Each record takes 64 clocks; where that does not show that all fit, a pass counts them, and only then one writes them.
-use Prim.Native.Nat.{ℕ, _*_, _/_, _≤_}
+use Prim.Native.Nat.{ℕ, _*_, _≤_}
 use mathlib.Core.Path.{_≡_, refl, ap, sym, _∙_}
 use mathlib.Core.Logic.{⊎-elim}
 use native.Mathlib.Omega.{arith}

@@ -1,6 +1,4 @@
 -- The header is the frame without its last 18 bits.
-use mathlib.Core.Path.{ap}
-use Rattle.wire.specs.declared.Header.{Header}
 use Rattle.listener.specs.Records.{transactionIn}
 use borrow.Author.Needs.{needs}
 use Rattle.listener.proofs.transaction_in.Statement.{statement}

@@ -1,11 +1,11 @@
 -- The bytes are asked in order, and the first over the largest refuses.
 use Prim.Native.Nat.{_≤_, _-_}
-use mathlib.Core.Path.{_≡_, ap, sym, _∙_}
+use mathlib.Core.Path.{_≡_, sym, _∙_}
 use mathlib.Core.Logic.{⊎-elim}
 use native.Mathlib.Nat.{sub-zero}
 use borrow.Author.Tests.{lt-ltb, le-ltb}
 use borrow.Author.Needs.{needs}
-use Rattle.verdict.specs.declared.Verdict.the-variants.{Done, Refused}
+use Rattle.verdict.specs.declared.Verdict.the-variants.{Done}
 use Rattle.verdict.specs.File.{inOrder, byteFault, bytesVerdict}
 use Rattle.verdict.proofs.Checks.{next, stop, finish}
 use Rattle.verdict.proofs.check_bytes.Statement.{statement}
