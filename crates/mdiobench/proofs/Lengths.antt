@@ -7,12 +7,12 @@ use native.Mathlib.Omega.{arith}
 use native.Mathlib.Nat.{mod-lt, mul-mod-left, mul-div-cancel, le-div-iff-mul-le, add-mul, one-mul}
 use native.Mathlib.Decide.{ℕ-discrete}
 use lib.ListN.{length, take}
-use lib.Seq.{length-take-le}
+use lib.Seq.{length-take-le, take-length}
 use lib.Arith.{digits-mod}
 use borrow.Author.Tests.{eq-eqb, ne-eqb, lt-ltb}
 use Rattle.verdict.specs.declared.Verdict.the-variants.{Refused}
 use Rattle.verdict.specs.Refusal.{wrongLength, tooMany}
-use Rattle.verdict.specs.File.{records, fileVerdict}
+use Rattle.verdict.specs.File.{records, fileVerdict, bytesVerdict}
 use Rattle.mdiobench.specs.Input.{standIn}
 
 -- what stands for an input is within the buffer
@@ -66,3 +66,17 @@ module _ (size most : ℕ) (positive : 0 < size) (fault fault′ : ℕ → ℕ) 
 
   pub same-refusal : SameRefusal
   same-refusal = elim (ℕ-discrete past 0) [ yes whole ↦ when-whole whole | no part ↦ when-broken part ]
+
+-- a file of single bytes has no part of a record: an input that goes on after its buffer is too long, and so is the whole buffer
+module _ (most largest number : ℕ) where
+  too-many-bytes : (file : List ℕ) → most < length file → bytesVerdict most largest number file ≡ Refused tooMany 0
+  unfolding bytesVerdict
+  too-many-bytes file many = rw (lt-ltb most (length file) many)
+
+  pub same-refusal-of-bytes : (buffer input : List ℕ) → length buffer ≡ most + 1 → length buffer ≤ length input →
+      bytesVerdict most largest number (take (standIn (length buffer) 1 (length input % 1)) buffer) ≡ bytesVerdict most largest number input
+  unfolding standIn
+  same-refusal-of-bytes buffer input room longer =
+      let whole : length input % 1 ≡ 0 = omega arith in
+      rw (whole, take-length buffer)
+      (too-many-bytes buffer (omega arith) ∙ sym (too-many-bytes input (omega arith)))

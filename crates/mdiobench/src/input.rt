@@ -1,18 +1,21 @@
-// The program's inputs, of any length, each read into a buffer of one record more than document 01 allows.
+// The program's inputs, of any length, each read into a buffer of one record more than the documents allow.
 use board::Board;
 use frame::Transaction;
+use listener::Capture;
 ghost use mathlib.Core.Path.{_≡_};
 ghost use Prim.Native.Nat.{_+_, _%_, _≤_, _<_};
 ghost use lib.ListN.{length};
 ghost use Rattle.io.specs.Counts.{Counts};
 ghost use Rattle.mdiobench.specs.Input.{standIn};
 
-// The buffers: 33 board records, 65 transactions, 257 events.
+// The buffers: 33 board records, 65 transactions, 257 events, 4,161 levels.
 const BOARD: usize = (Board::PLACES + 1) * Board::RECORD;
 
 const LIST: usize = (Transaction::MOST + 1) * Transaction::BYTES;
 
 const EVENTS: usize = (Board::MOST_EVENTS + 1) * Board::EVENT_RECORD;
+
+const CAPTURE: usize = Capture::MOST + 1;
 
 pub(crate) fn room_for_board() -> [u8; BOARD]
     ensures { λ r. ⌜ 4422 ≡ length r ⌝ }
@@ -30,6 +33,12 @@ pub(crate) fn room_for_events() -> [u8; EVENTS]
     ensures { λ r. ⌜ 1028 ≡ length r ⌝ }
 {
     [0; EVENTS]
+}
+
+pub(crate) fn room_for_capture() -> [u8; CAPTURE]
+    ensures { λ r. ⌜ 4161 ≡ length r ⌝ }
+{
+    [0; CAPTURE]
 }
 
 // How far `rest` bytes and `more` go past the last whole record; the sum itself need not fit.

@@ -1,5 +1,6 @@
-// The bench's program (document 01: "The program takes the list on standard input, and `board.rec` and `events.rec` from its
-// directory"). It sends the list over the wire, and prints an answer a line, or one refusal.
+// The bench's program. Started without arguments it sends a list over the wire, and prints an answer a line, or one refusal;
+// with `listen` it reads a capture back.
+mod capture;
 mod input;
 mod report;
 
@@ -8,6 +9,7 @@ use board::Board;
 use board::load;
 use frame::Transaction;
 use frame::check_list;
+use libc::STDERR_FILENO;
 use libc::STDIN_FILENO;
 use verdict::Verdict;
 
@@ -20,19 +22,20 @@ fn bench(board_file: &[u8], list: &[u8], events: &[u8]) {
         return report::refusal(verdict, b"board");
     };
     let listed = check_list(list);
-    let Verdict::Done(count) = listed else {
+    let Verdict::Done(_) = listed else {
         return report::refusal(listed, b"list");
     };
     let mut answers = report::room_for_answers();
     let outcome = exchange(loaded.board, list, events, &mut answers);
     let verdict = outcome.verdict;
-    let Verdict::Done(_) = verdict else {
+    let Verdict::Done(size) = verdict else {
         return report::refusal(verdict, b"events");
     };
-    report::answers(&answers, count);
+    report::answers(&answers[..size]);
 }
 
-fn main() {
+// Document 01: "The program takes the list on standard input, and `board.rec` and `events.rec` from its directory".
+fn tray() {
     let mut board_file = input::room_for_board();
     let board_bytes = input::read_file(b"board.rec", &mut board_file, Board::RECORD);
     let mut list = input::room_for_list();
@@ -44,4 +47,24 @@ fn main() {
         &list[..list_bytes],
         &events[..event_bytes],
     );
+}
+
+// Whether the first argument is `listen`; one that is longer leaves an empty word.
+fn says_listen() -> bool {
+    let mut word = [0u8; 6];
+    let size = os::arg(1, &mut word);
+    check::same(&word[..size], b"listen")
+}
+
+fn main() {
+    let words = os::arg_count();
+    if words < 2 {
+        return tray();
+    }
+    if words == 2 {
+        if says_listen() {
+            return capture::run();
+        }
+    }
+    io::write_all(STDERR_FILENO, b"usage: mdiobench [listen]\n");
 }

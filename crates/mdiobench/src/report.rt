@@ -3,20 +3,22 @@
 use frame::Answer;
 use frame::Transaction;
 use libc::STDOUT_FILENO;
+use listener::Capture;
 use verdict::Verdict;
 use verdict::byte_at;
 use verdict::word_at;
 ghost use mathlib.Core.Path.{_≡_};
-ghost use Prim.Native.Nat.{_<_, _≤_};
+ghost use Prim.Native.Nat.{_<_};
 ghost use lib.ListN.{length};
-ghost use Rattle.frame.specs.List.{mostTransactions};
+ghost use Rattle.verdict.specs.File.{records};
+ghost use Rattle.frame.specs.Answers.{answerRecord};
 ghost use Rattle.mdiobench.specs.Line.{digitOf, letterOf, answerAt, afterOrdinal};
 
-// Room for the answers to as many transactions as a list may have.
-const ANSWERS: usize = Transaction::MOST * Answer::BYTES;
+// Room for as many answers as a capture can give, one more than the longest list has.
+const ANSWERS: usize = Capture::MOST_RECORDS * Answer::BYTES;
 
 pub(crate) fn room_for_answers() -> [u8; ANSWERS]
-    ensures { λ r. ⌜ 384 ≡ length r ⌝ }
+    ensures { λ r. ⌜ 390 ≡ length r ⌝ }
 {
     [0; ANSWERS]
 }
@@ -40,7 +42,7 @@ fn letter(op: u8) -> u8
 
 // The answer at an index of the output.
 fn answer_at(answers: &[u8], k: usize) -> Answer
-    requires { ⌜ k < mostTransactions ⌝ }
+    requires { ⌜ k < records answerRecord (now answers) ⌝ }
     ensures { λ r. ⌜ r ≡ answerAt (now (answers .entry)) k ⌝ }
 {
     let at = k * Answer::BYTES;
@@ -81,10 +83,9 @@ fn after_ordinal(answer: Answer) -> [u8; 16]
     ]
 }
 
-// The lines of the first `count` answers.
-pub(crate) fn answers(records: &[u8], count: usize)
-    requires { ⌜ count ≤ mostTransactions ⌝ }
-{
+// The lines of these answers.
+pub(crate) fn answers(records: &[u8]) {
+    let count = records.len() / Answer::BYTES;
     let mut k = 0;
     while k < count {
         let line = after_ordinal(answer_at(records, k));
