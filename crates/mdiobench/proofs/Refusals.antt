@@ -21,7 +21,7 @@ use Rattle.machine.specs.declared.Outcome.{Outcome}
 use Rattle.machine.specs.Plain.{planning}
 use Rattle.agreement.specs.Exchange.{Exchanged}
 use Rattle.listener.specs.Listening.{mostLevels, largestLevel, captureVerdict, recordsIn, listening, Listened}
-use Rattle.listener.proofs.Clocks.{most-records}
+use Rattle.listener.proofs.Frames.{most-records}
 use Rattle.listener.proofs.Laws.{room-for-all}
 
 -- "board, then list, then events": what is left to refuse is in the event file
