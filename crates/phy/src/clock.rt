@@ -21,6 +21,7 @@ impl Phy {
     pub const HEADER: u8 = 14;
     // The bits seen before the clock in which an answer starts: it drives 0 for bit 16.
     pub const BEFORE_ANSWER: u8 = 15;
+
     // As a load leaves it: hunting with 0 ones, link down, registers at default.
     pub fn fresh(address: u8, implemented: u32, defaults: [u16; 32], masks: [u16; 32]) -> Phy
         ensures { λ r. ⌜ r ≡ fresh address implemented defaults masks ⌝ }
