@@ -17,7 +17,11 @@ const GOAL: f64 = 2e6;
 
 fn main() {
     let capture = make::capture(&run());
-    listen(&capture);
+    println!("listening, best of {ROUNDS} rounds of {CAPTURES_A_ROUND} captures of {MOST_TRANSACTIONS} transactions:");
+    // One record more than a list has is room for every capture, and the door need not count the records first.
+    for room in [MOST_TRANSACTIONS, MOST_TRANSACTIONS + 1] {
+        listen(&capture, room);
+    }
 }
 
 /// Times the run, and gives its log.
@@ -37,13 +41,13 @@ fn run() -> Vec<u8> {
     log
 }
 
-/// Times the listener on a capture of the most transactions.
-fn listen(capture: &[u8]) {
-    let (_, [door, model]) = in_turn(CAPTURES_A_ROUND, vec![0; MOST_TRANSACTIONS * ANSWER_RECORD], |calls, answers| {
+/// Times the listener on a capture of the most transactions, with room for so many records.
+fn listen(capture: &[u8], room: usize) {
+    let (_, [door, model]) = in_turn(CAPTURES_A_ROUND, vec![0; room * ANSWER_RECORD], |calls, answers| {
         (calls.listen)(black_box(capture), black_box(answers)).expect("the capture is good");
     });
     let [door_rate, model_rate] = [door, model].map(|time| MOST_TRANSACTIONS as f64 * 1e9 / time);
-    println!("listening, best of {ROUNDS} rounds of {CAPTURES_A_ROUND} captures of {MOST_TRANSACTIONS} transactions:");
+    println!("with room for {room} records");
     println!("door  {:7.2} million transactions a second", door_rate / 1e6);
     println!("model {:7.2} million transactions a second", model_rate / 1e6);
     println!("ratio {:7.2} (of the times)", door / model);
