@@ -10,16 +10,13 @@ use Rattle.frame.specs.declared.list.Transaction.{Transaction}
 use Rattle.frame.specs.declared.answer.Answer.{Answer}
 use Rattle.frame.specs.List.{isRead}
 use Rattle.frame.specs.Steps.{startSteps, opSteps}
-use Rattle.frame.specs.Answers.{sent, silent, answerTo, readAnswer}
+use Rattle.frame.specs.Answers.{silent, answerBy}
 use Rattle.wire.specs.Wire.{asBit}
 use Rattle.wire.specs.Machines.{clocksWith}
 
 -- the decoder's rule after a preamble of m ones, over the level at each clock, the first being 1
 abbrev pub heard : ℕ → Transaction → (ℕ → ℕ) → Answer
-heard m t level =
-    cond (isRead t)
-    (readAnswer t (record { second = level (m + 16) }) (valueOf (tabulate 16 (λ i. level (m + 17 + i)))))
-    (answerTo t sent (t .«data»))
+heard m t level = answerBy t (record { second = level (m + 16) }) (valueOf (tabulate 16 (λ i. level (m + 17 + i))))
 
 -- the same of a list, the first transaction with a preamble of m ones and each later one with n
 unfoldable pub heardAll : ℕ → ℕ → List Transaction → (ℕ → ℕ) → List Answer

@@ -57,9 +57,12 @@ wordIn part = valueOf (levels part (preamble + 17) 16)
 abbrev pub readAnswer : Transaction → Turnaround → ℕ → Answer
 readAnswer t turnaround word = cond (isAnswered turnaround) (answerTo t answered word) (answerTo t silent 0)
 
--- 'A write is "sent" even if no PHY took it; its data is the list's.'
+-- a read goes by its turnaround and the word behind it; 'A write is "sent" even if no PHY took it; its data is the list's.'
+abbrev pub answerBy : Transaction → Turnaround → ℕ → Answer
+answerBy t turnaround word = cond (isRead t) (readAnswer t turnaround word) (answerTo t sent (t .«data»))
+
 unfoldable pub answerIn : Transaction → List ℕ → Answer
-answerIn t part = cond (isRead t) (readAnswer t (turnaroundIn part) (wordIn part)) (answerTo t sent (t .«data»))
+answerIn t part = answerBy t (turnaroundIn part) (wordIn part)
 
 -- the answers to a list in its log, transaction by transaction
 abbrev pub answersIn : List ℕ → List ℕ → List Answer

@@ -10,18 +10,18 @@ use Rattle.frame.specs.declared.list.Transaction.{Transaction}
 use Rattle.frame.specs.declared.answer.Answer.{Answer}
 use Rattle.frame.specs.Frame.{frameBits}
 use Rattle.frame.specs.List.{isRead}
-use Rattle.frame.specs.Answers.{sent, answerTo, readAnswer}
+use Rattle.frame.specs.Answers.{answerBy}
 use Rattle.wire.specs.Follower.{headerOf, headerSeen}
 use Rattle.wire.specs.Machines.{headerFor}
 use Rattle.agreement.specs.Agrees.{Accepted}
 use Rattle.agreement.proofs.Rows.{headerWord, op-is, header-says}
-use Rattle.listener.specs.Records.{transactionIn, turnaroundIn, startsRight, isOurs, answerBy, recordsOf}
+use Rattle.listener.specs.Records.{transactionIn, turnaroundIn, startsRight, isOurs, recordsOf}
 
 -- what turnaround and data, as a number of 18 bits, answer to a transaction
 abbrev pub answerOf : Transaction → ℕ → Answer
 answerOf t tail =
     let word = tail % 2 ^ 16 in
-    cond (isRead t) (readAnswer t (record { second = bit 16 tail }) word) (answerTo t sent word)
+    answerBy (record { op = t .op; address = t .address; register = t .register; «data» = word }) (record { second = bit 16 tail }) word
 
 module _ (t : Transaction) (accepted : Accepted t) (tail : ℕ) (fits : tail < 2 ^ 18) where
   abbrev word : ℕ
@@ -56,5 +56,5 @@ module _ (t : Transaction) (accepted : Accepted t) (tail : ℕ) (fits : tail < 2
   pub record-of : recordsOf word ≡ answerOf t tail ∷ []
   unfolding recordsOf
   record-of =
-      ap₂ (λ seen turnaround. cond (startsRight word && isOurs seen) (answerBy seen turnaround ∷ []) []) transaction-in turnaround-in
+      ap₂ (λ seen turnaround. cond (startsRight word && isOurs seen) (answerBy seen turnaround (seen .«data») ∷ []) []) transaction-in turnaround-in
       ∙ rw (starts-right, is-ours)

@@ -9,11 +9,12 @@ use lib.Dec.{leb, eqb}
 use borrow.Author.Tests.{leb-true}
 use Rattle.verdict.specs.Output.{join}
 use Rattle.verdict.proofs.Lists.{join-append}
+use Rattle.frame.specs.Answers.{answerBy}
 use Rattle.wire.specs.declared.Follower.{Follower}
 use Rattle.wire.specs.declared.Follower.the-variants.{Hunting, Inside}
 use Rattle.wire.specs.Follower.{oneMore, follow}
 use Rattle.listener.specs.Frames.{enough, atFirst, framesEnding, framesFrom}
-use Rattle.listener.specs.Records.{transactionIn, turnaroundIn, startsRight, isOurs, answerBy, recordsOf, recordsOfAll}
+use Rattle.listener.specs.Records.{transactionIn, turnaroundIn, startsRight, isOurs, recordsOf, recordsOfAll}
 use Rattle.listener.specs.Listening.{mostLevels, levelsIn, recordsIn}
 
 pub records-append : (a b : List ℕ) → recordsOfAll (a ++ b) ≡ recordsOfAll a ++ recordsOfAll b
@@ -52,7 +53,7 @@ one-record : (frame : ℕ) → length (recordsOf frame) ≤ 1
 unfolding recordsOf
 one-record frame = go (startsRight frame && isOurs (transactionIn frame))
   where
-    go : (b : Bool) → length (cond b (answerBy (transactionIn frame) (turnaroundIn frame) ∷ []) []) ≤ 1
+    go : (b : Bool) → length (cond b (answerBy (transactionIn frame) (turnaroundIn frame) (transactionIn frame .«data») ∷ []) []) ≤ 1
     go true = omega arith
     go false = omega arith
 

@@ -10,7 +10,7 @@ use Rattle.frame.specs.declared.answer.Answer.{Answer}
 use Rattle.frame.specs.declared.answer.Turnaround.{Turnaround}
 use Rattle.frame.specs.Frame.{frameBits}
 use Rattle.frame.specs.List.{write, isRead}
-use Rattle.frame.specs.Answers.{sent, answerTo, readAnswer}
+use Rattle.frame.specs.Answers.{answerBy}
 use Rattle.wire.specs.Follower.{headerSeen}
 use Rattle.listener.specs.declared.Given.{Given}
 use Rattle.listener.specs.declared.Given.the-variants.{Nothing, Record}
@@ -33,14 +33,11 @@ startsRight frame = eqb (frame / 2 ^ 30) 1
 abbrev pub isOurs : Transaction → Bool
 isOurs t = eqb (t .op) write || isRead t
 
--- "status 0 with the data seen, or 1 or 2 by the decoder's rule"
-abbrev pub answerBy : Transaction → Turnaround → Answer
-answerBy t turnaround = cond (isRead t) (readAnswer t turnaround (t .«data»)) (answerTo t sent (t .«data»))
-
--- the record of a frame, or nothing
+-- the record of a frame, "status 0 with the data seen, or 1 or 2 by the decoder's rule", or nothing
 unfoldable pub recordsOf : ℕ → List Answer
 recordsOf frame =
-    cond (startsRight frame && isOurs (transactionIn frame)) (answerBy (transactionIn frame) (turnaroundIn frame) ∷ []) []
+    let seen = transactionIn frame in
+    cond (startsRight frame && isOurs seen) (answerBy seen (turnaroundIn frame) (seen .«data») ∷ []) []
 
 -- the records of frames, in order
 abbrev pub recordsOfAll : List ℕ → List Answer
