@@ -1,12 +1,11 @@
 -- The two phases of a frame after its start: the header up to its effect, then turnaround and data up to the frame's end.
 use Prim.Native.Nat.{ℕ, suc, _+_, _%_, _^_, _≤_, _<_}
 use mathlib.Core.Path.{_≡_, refl, ap, _∙_}
-use mathlib.Core.Bool.{Bool, true, false, cond, not, and-false}
+use mathlib.Core.Bool.{Bool, true, false, cond}
 use mathlib.Core.List.{List, [], _∷_, map}
 use native.Mathlib.Omega.{arith}
 use native.Mathlib.Numerals.{add-one}
 use lib.ListN.{length}
-use borrow.Author.Tests.{lt-leb, ne-eqb}
 use Rattle.verdict.specs.Lists.{All, count}
 use Rattle.verdict.proofs.Elements.{count-none}
 use Rattle.wire.specs.declared.Drive.{Drive}
@@ -14,13 +13,14 @@ use Rattle.wire.specs.declared.Drive.the-variants.{Released}
 use Rattle.wire.specs.declared.Follower.the-variants.{Hunting, Inside}
 use Rattle.wire.specs.declared.Header.{Header}
 use Rattle.wire.specs.Wire.{Party, asBit}
-use Rattle.wire.specs.Follower.{oneMore, follow, headerSeen, answering}
+use Rattle.wire.specs.Follower.{oneMore, headerSeen, answering}
 use Rattle.wire.specs.Machines.{Core, quiet}
 use Rattle.wire.proofs.Runs.{Goes}
 use Rattle.wire.proofs.Voices.{says}
+use Rattle.wire.proofs.Followers.{more-fits, header-stays, goes-on, shown}
 use Rattle.agreement.specs.Follows.{Line, headerDone, Follows}
-use Rattle.agreement.proofs.Phase.{shown, hears, Fits, guise, early, through}
-use Rattle.agreement.proofs.Seen.{more-fits, same-header, nobody-fits}
+use Rattle.agreement.proofs.Phase.{hears, Fits, guise, early, through}
+use Rattle.agreement.proofs.Seen.{nobody-fits}
 
 -- what the last clock of a frame with this header makes of a party, with the bits seen after it
 abbrev pub frameEffect : {P : Type 0} → Core P → Line P → Header → ℕ → P → P
@@ -39,17 +39,16 @@ behind-next h level seen bits b before =
       from = omega (arith, b .from);
       to = before;
       fits = more-fits seen bits (b .fits) (b .to) level;
-      header = same-header seen bits (b .fits) (b .to) level (b .from) ∙ b .header;
+      header = header-stays seen bits (b .fits) (b .to) level seen (b .from) ∙ b .header;
     }
 
 module _ {P : Type 0} {wire : Party P} {core : Core P} {line : Line P} {Good : P → Type 0} (laws : Follows wire core line Good) where
-  -- a clock without effect, from the second bit on
-  moves : (level : Bool) (seen bits w : ℕ) (p : P) → 2 ≤ seen → seen < 31 → (seen ≡ 13 → ⊥) →
+  -- a clock without effect
+  moves : (level : Bool) (seen bits w : ℕ) (p : P) → seen < 31 → (seen ≡ 13 → ⊥) →
       wire .samples level (line .put (Inside seen bits) w p) ≡ line .put (Inside (suc seen) (oneMore bits level)) w p
-  unfolding follow
-  moves level seen bits w p started before ordinary =
+  moves level seen bits w p before ordinary =
       laws .sampling .inside level seen bits w p before ordinary
-      ∙ rw (lt-leb 31 seen before, ne-eqb seen 1 (omega arith), and-false (not level), add-one seen)
+      ∙ ap (λ f. line .put f w p) (goes-on (line .enough p) level seen bits before ∙ ap (λ k. Inside k (oneMore bits level)) (add-one seen))
 
   -- the header from the second bit on: the station sends, nobody answers yet
   pub header-phase : (ds : List Drive) (bits c c′ : ℕ) (ps : List P) → length ds ≡ 12 → c′ ≡ c + 11 →
@@ -61,7 +60,7 @@ module _ {P : Type 0} {wire : Party P} {core : Core P} {line : Line P} {Good : P
       rw left at
       (through laws (λ p. false) 0 (λ c p. refl) false 13 (λ seen bits. (2 ≤ seen) × (seen ≤ 13)) (headerDone core line)
       (λ seen bits p within. early laws seen bits 0 p (omega arith))
-      (λ level seen bits p within before. moves level seen bits 0 p (within .0) (omega arith) (omega arith))
+      (λ level seen bits p within before. moves level seen bits 0 p (omega arith) (omega arith))
       (λ level seen bits within before. (omega arith, omega arith))
       (λ level bits p within. laws .sampling .header level bits p)
       d ds 2 bits c c′ ps (omega arith) (omega arith) (omega arith, omega arith) (count-none (λ p. false) ps (λ p. refl)) (nobody-fits (d ∷ ds)))
@@ -88,7 +87,7 @@ module _ {P : Type 0} {wire : Party P} {core : Core P} {line : Line P} {Good : P
       rw left at
       (through laws (core .answers h) word (λ c. laws .keeps-events c .answers h) someone 31 (Behind h) (frameEffect core line h)
       (own-drives h word)
-      (λ level seen bits p b before. moves level seen bits _ p (omega (arith, b .from)) before (omega (arith, b .from)))
+      (λ level seen bits p b before. moves level seen bits _ p before (omega (arith, b .from)))
       (behind-next h)
-      (λ level bits p b. laws .sampling .end level bits _ p ∙ ap (λ k. line .put (Hunting 0) 0 (core .afterFrame k (oneMore bits level % 2 ^ 16) p)) (same-header 31 bits (b .fits) (b .to) level (b .from) ∙ b .header))
+      (λ level bits p b. laws .sampling .end level bits _ p ∙ ap (λ k. line .put (Hunting 0) 0 (core .afterFrame k (oneMore bits level % 2 ^ 16) p)) (header-stays 31 bits (b .fits) (b .to) level 31 (b .from) ∙ b .header))
       d ds 14 bits c c′ ps (omega arith) (omega arith) (record { from = omega arith; to = omega arith; fits = fits; header = header }) voices alone)

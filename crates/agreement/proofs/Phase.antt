@@ -15,13 +15,9 @@ use Rattle.wire.specs.Wire.{Party, levelOf, drivers, asBit, drivesOf, eventsAft
 use Rattle.wire.specs.Follower.{oneMore, headerSeen, answering}
 use Rattle.wire.specs.Machines.{Core, quiet}
 use Rattle.wire.proofs.Runs.{Goes, goes-nil, goes-cons}
+use Rattle.wire.proofs.Followers.{shown}
 use Rattle.wire.proofs.Voices.{Alike, alike-cons, says, one-voice}
 use Rattle.agreement.specs.Follows.{Line, Follows}
-
--- the bits seen after some more levels
-abbrev pub shown : ℕ → List Bool → ℕ
-shown bits [] = bits
-shown bits (level ∷ levels) = shown (oneMore bits level) levels
 
 -- the level that the station's drive makes with so many bits seen, if someone answers a word
 abbrev pub hear : Bool → ℕ → ℕ → Drive → Bool

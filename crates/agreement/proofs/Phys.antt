@@ -1,7 +1,7 @@
 -- A PHY follows frames, whatever its events are, if they are effects: each law is one that the PHY's crate shows.
 use Prim.Native.Nat.{ℕ, _<_}
 use mathlib.Core.Path.{_≡_, refl, sym, _∙_}
-use mathlib.Core.Bool.{Bool, true, false, _&&_}
+use mathlib.Core.Bool.{true, _&&_}
 use mathlib.Core.List.{List}
 use native.Mathlib.Omega.{arith}
 use lib.Dec.{eqb}
@@ -10,11 +10,12 @@ use borrow.Author.Tests.{eqb-true}
 use Rattle.verdict.proofs.Elements.{count-one}
 use Rattle.frame.specs.List.{read}
 use Rattle.wire.specs.declared.Header.{Header}
-use Rattle.wire.specs.Follower.{answering}
+use Rattle.wire.specs.Follower.{ourStart, answering}
 use Rattle.phy.specs.declared.Phy.{Phy}
 use Rattle.phy.specs.Registers.{implements}
-use Rattle.phy.specs.Clock.{enough, answers, phyParty, phyCore}
+use Rattle.phy.specs.Clock.{enough, isOwn, answers, phyParty, phyCore}
 use Rattle.phy.specs.Typed.{Steady}
+use Rattle.phy.proofs.Every.{both}
 use Rattle.phy.proofs.Effects.{Effect, afterHeader-effect, afterFrame-effect}
 use Rattle.phy.proofs.Headers.{answers-reads-only, write-header, read-frame}
 use Rattle.phy.proofs.Keeping.{enough-most, keeps-answers, keeps-enough, keeps-steady, line-steady}
@@ -79,15 +80,11 @@ module _ (happens : ℕ → Phy → Phy) (events : (c : ℕ) → Effect (happens
 -- a PHY answers at its own address alone
 answers-own : (h : Header) (phy : Phy) → answers h phy ≡ true → h .address ≡ phy .address
 unfolding answers
-answers-own h phy e = eqb-true (h .address) (phy .address) (first (eqb (h .address) (phy .address)) _ (second (eqb (h .op) read) _ e))
-  where
-    first : (a b : Bool) → (a && b) ≡ true → a ≡ true
-    first true b e = refl
-    first false b e = e
-
-    second : (a b : Bool) → (a && b) ≡ true → b ≡ true
-    second true b e = e
-    second false b e = cc
+answers-own h phy e =
+    let here = eqb (h .address) (phy .address) in
+    let own = both (isOwn read h phy) (implements (h .register) phy) e .0 in
+    let asked = both (eqb (h .start) ourStart) (eqb (h .op) read && here) own .1 in
+    eqb-true (h .address) (phy .address) (both (eqb (h .op) read) here asked .1)
 
 -- of PHYs at different addresses at most one answers
 pub phys-one : (happens : ℕ → Phy → Phy) (phys : List Phy) (d : Phy) →

@@ -20,9 +20,10 @@ use Rattle.wire.specs.declared.Drive.the-variants.{Released, Driven}
 use Rattle.wire.specs.Wire.{stationDrive}
 use Rattle.wire.specs.Follower.{headerOf, headerSeen}
 use Rattle.wire.specs.Machines.{headerFor}
+use Rattle.wire.proofs.Followers.{shown}
 use Rattle.agreement.specs.Levels.{ones}
 use Rattle.agreement.specs.Agrees.{Accepted, stationFor}
-use Rattle.agreement.proofs.Phase.{shown, hears}
+use Rattle.agreement.proofs.Phase.{hears}
 use Rattle.agreement.proofs.Seen.{hears-row, shown-row}
 
 -- the steps of op, address and register, and those of turnaround and data
@@ -110,7 +111,8 @@ module _ (t : Transaction) (accepted : Accepted t) where
   pub header-says : headerSeen 14 headerWord ≡ headerFor t
   unfolding headerOf
   header-says =
+      let start : headerWord / 2 ^ 0 / 2 ^ 12 % 4 ≡ 1 = omega (arith, op-is, accepted .address, accepted .register) in
       let op : headerWord / 2 ^ 0 / 2 ^ 10 % 4 ≡ t .op = omega (arith, op-is, accepted .address, accepted .register) in
       let address : headerWord / 2 ^ 0 / 2 ^ 5 % 32 ≡ t .address = omega (arith, op-is, accepted .address, accepted .register) in
       let register : headerWord / 2 ^ 0 % 32 ≡ t .register = omega (arith, op-is, accepted .address, accepted .register) in
-      λ i. record { op = op i; address = address i; register = register i }
+      λ i. record { start = start i; op = op i; address = address i; register = register i }

@@ -1,22 +1,23 @@
--- Bits on the wire: what the station sends is what is heard and seen, and later bits leave the header of a frame as it is.
-use Prim.Native.Nat.{ℕ, zero, suc, _+_, _*_, _-_, _/_, _^_, _≤_, _<_}
-use mathlib.Core.Path.{_≡_, refl, ap, ap₂, sym, _∙_}
+-- Bits on the wire: what the station sends is what is heard and seen.
+use Prim.Native.Nat.{ℕ, zero, suc, _+_, _*_, _-_, _^_, _≤_, _<_}
+use mathlib.Core.Path.{_≡_, refl, ap, ap₂, _∙_}
 use mathlib.Core.Bool.{Bool, true, false, cond, and-true}
 use mathlib.Core.List.{List, [], _∷_, map}
 use native.Mathlib.Omega.{arith}
 use native.Mathlib.Nat.{lt-of-lt-of-le}
 use lib.ListN.{length, replicate}
 use lib.Dec.{eqb}
-use lib.Pow.{pow-mono, shr-shr}
+use lib.Pow.{pow-mono}
 use borrow.Author.Tests.{le-leb, ne-eqb}
 use Rattle.verdict.specs.Bits.{bit, bits, shiftIn}
 use Rattle.verdict.specs.Lists.{All}
 use Rattle.wire.specs.declared.Drive.{Drive}
 use Rattle.wire.specs.declared.Drive.the-variants.{Released, Driven}
 use Rattle.wire.specs.Wire.{drivers, stationDrive}
-use Rattle.wire.specs.Follower.{oneMore, headerOf, headerSeen, answering}
+use Rattle.wire.specs.Follower.{oneMore, answering}
+use Rattle.wire.proofs.Followers.{shown}
 use Rattle.agreement.specs.Levels.{ones}
-use Rattle.agreement.proofs.Phase.{shown, hears, Fits}
+use Rattle.agreement.proofs.Phase.{hears, Fits}
 
 -- the station sends a row of bits while nobody answers: the row is heard
 pub hears-row : (word n : ℕ) (row : List ℕ) → All (λ b. b < 2) row → hears false word n (map stationDrive row) ≡ ones row
@@ -34,30 +35,12 @@ hears-word word n (suc k) place few =
     rw (ne-eqb n 15 (omega arith), le-leb 16 n (omega arith), le-leb n 31 (omega arith), here)
     (ap₂ (λ l ls. l ∷ ls) (and-true (eqb (bit k word) 1)) (hears-word word (suc n) k (omega arith) (omega arith)))
 
--- one bit more: the bits before it are as they were
-module _ (n bits : ℕ) (fits : bits < 2 ^ n) (room : n ≤ 31) where
-  below : bits < 2 ^ 31
-  below = lt-of-lt-of-le fits (pow-mono room)
-
-  pub more-fits : (level : Bool) → oneMore bits level < 2 ^ suc n
-  more-fits true = omega (arith, below)
-  more-fits false = omega (arith, below)
-
-  more-half : (level : Bool) → oneMore bits level / 2 ^ 1 ≡ bits
-  more-half true = omega (arith, below)
-  more-half false = omega (arith, below)
-
-  pub same-header : (level : Bool) → 14 ≤ n → headerSeen (suc n) (oneMore bits level) ≡ headerSeen n bits
-  same-header level inside =
-      let later : suc n - 14 ≡ 1 + (n - 14) = omega arith in
-      ap headerOf (ap (λ k. oneMore bits level / 2 ^ k) later ∙ sym (shr-shr (oneMore bits level) 1 (n - 14)) ∙ ap (λ k. k / 2 ^ (n - 14)) (more-half level))
-
 -- a row of bits comes in behind the bits seen
 pub shown-row : (k bits : ℕ) (row : List ℕ) → All (λ b. b < 2) row → bits < 2 ^ k → k + length row ≤ 32 → shown bits (ones row) ≡ shiftIn bits row
 unfolding shiftIn
 shown-row k bits [] small fits room = refl
 shown-row k bits (b ∷ row) small fits room =
-    ap (λ w. shown w (ones row)) (comes b (small .0) (below k bits fits (omega arith)))
+    ap (λ w. shown w (ones row)) (comes b (small .0) (lt-of-lt-of-le fits (pow-mono {i = k} {j = 31} (omega arith))))
     ∙ shown-row (suc k) (bits * 2 + b) row (small .1) (omega (arith, small .0)) (omega arith)
   where
     comes : (b : ℕ) → b < 2 → bits < 2 ^ 31 → oneMore bits (eqb b 1) ≡ bits * 2 + b

@@ -16,9 +16,10 @@ use Rattle.wire.specs.Follower.{follow, headerSeen}
 use Rattle.wire.specs.Machines.{Core, headerFor, quiet, beforeReads, beforeWrites}
 use Rattle.wire.proofs.Runs.{Goes, goes-append, goes-to}
 use Rattle.wire.proofs.Quiet.{quiet-clock, quiet-append, quiet-all, quiet-count}
+use Rattle.wire.proofs.Followers.{shown}
 use Rattle.agreement.specs.Follows.{Line, headerDone, Follows, Ready, OneAnswers}
 use Rattle.agreement.specs.Agrees.{rest}
-use Rattle.agreement.proofs.Phase.{shown, hears, Fits, guise, guise-happens}
+use Rattle.agreement.proofs.Phase.{hears, Fits, guise, guise-happens}
 use Rattle.agreement.proofs.Start.{starts, put-clock}
 use Rattle.agreement.proofs.Reading.{Captures, Reading, reading}
 use Rattle.agreement.proofs.Frame.{header-phase, frameEffect, frame-phase}

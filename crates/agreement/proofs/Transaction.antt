@@ -21,10 +21,11 @@ use Rattle.wire.specs.Wire.{Party, asBit, stationDrive}
 use Rattle.wire.specs.Machines.{Core, headerFor, quiet, beforeReads, beforeWrites, clocksWith, readOf, plainAnswer, leftByRead, leftByWrite, plainAfter}
 use Rattle.wire.proofs.Runs.{Goes, goes-as, goes-to}
 use Rattle.wire.proofs.Quiet.{quiet-append}
+use Rattle.wire.proofs.Followers.{shown}
 use Rattle.agreement.specs.Follows.{Line, Follows, Ready, OneAnswers}
 use Rattle.agreement.specs.Levels.{ones, at, heard, answerLevels, levelsOf}
 use Rattle.agreement.specs.Agrees.{Accepted, stationFor, rest, Agrees}
-use Rattle.agreement.proofs.Phase.{shown, hears, Fits}
+use Rattle.agreement.proofs.Phase.{hears, Fits}
 use Rattle.agreement.proofs.Seen.{hears-row, hears-read, shown-row, nobody-fits, silent-fits}
 use Rattle.agreement.proofs.Reading.{Reading}
 use Rattle.agreement.proofs.Rows.{headerRow, frameRow, station-rows, headerWord, header-long, header-heard, header-shown, header-fits, header-says}

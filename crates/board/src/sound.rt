@@ -91,7 +91,7 @@ fn reset_stands(phy: Phy) -> bool
     !((control >> 15) % 2 == 1) | (stands & (others & !phy.link))
 }
 
-// Hunting with 0 to 32 ones, or inside a frame with 1 to 31 bits, the first 0 and any second 1.
+// Hunting with 0 to 32 ones, or inside a frame with 1 to 31 bits, the first 0.
 fn follower_sound(follower: Follower) -> bool
     ensures { λ r. ⌜ r ≡ followerSound follower ⌝ }
 {
@@ -104,11 +104,7 @@ fn follower_sound(follower: Follower) -> bool
             if Follower::MOST_SEEN < seen {
                 return false;
             }
-            let width = seen as u32;
-            if seen == 1 {
-                return bits >> (width - 1) == 0;
-            }
-            (bits >> (width - 1) == 0) & (bits >> (width - 2) == 1)
+            bits >> (seen - 1) == 0
         }
     }
 }

@@ -24,9 +24,7 @@ impl Frame {
     pub const HEADER_BITS: usize = 14;
 
     pub const BITS: usize = 32;
-    // How many values the 30 bits behind a start have, the 18 behind a header, and the last 16, the data.
-    pub const AFTER_START_VALUES: u32 = 0x4000_0000;
-
+    // How many values the 18 bits behind a header have, and the last 16, the data.
     pub const TAIL_VALUES: u32 = 0x4_0000;
 
     pub const DATA_VALUES: u32 = 0x1_0000;

@@ -1,7 +1,7 @@
 -- One clock of a capture: what is heard behind it, and how the follower's kind tells whether it started or ended a frame.
 use Prim.Native.Nat.{ℕ, _+_, _≤_, _<_}
 use mathlib.Core.Path.{_≡_, refl, ap, sym, _∙_}
-use mathlib.Core.Bool.{Bool, true, false, not, _&&_, cond}
+use mathlib.Core.Bool.{Bool, true, false, cond}
 use mathlib.Core.List.{List, [], _∷_, _++_}
 use native.Mathlib.Omega.{arith}
 use native.Mathlib.Numerals.{add-one}
@@ -46,18 +46,17 @@ module _ (level : Bool) (seen bits : ℕ) where
   -- one inside a frame that finds itself hunting hunts as at first
   pub now-hunting : (ones : ℕ) → follow enough level (Inside seen bits) ≡ Hunting ones → follow enough level (Inside seen bits) ≡ atFirst
   unfolding follow
-  now-hunting ones e = go (leb 31 seen) (not level && eqb seen 1) e
+  now-hunting ones e = go (leb 31 seen) e
     where
-      go : (ends wrong : Bool) → let next = cond ends (Hunting 0) (cond wrong (Hunting 0) (Inside (seen + 1) (oneMore bits level))) in next ≡ Hunting ones → next ≡ atFirst
-      go true wrong e = refl
-      go false true e = refl
-      go false false e = never (sym e)
+      go : (ends : Bool) → let next = cond ends (Hunting 0) (Inside (seen + 1) (oneMore bits level)) in next ≡ Hunting ones → next ≡ atFirst
+      go true e = refl
+      go false e = never (sym e)
 
   -- and while it is inside, no frame has ended
   pub none-ended : (seen′ bits′ : ℕ) → follow enough level (Inside seen bits) ≡ Inside seen′ bits′ → framesEnding level (Inside seen bits) ≡ []
   unfolding follow
   none-ended seen′ bits′ e = go (leb 31 seen) e
     where
-      go : (ends : Bool) → cond ends (Hunting 0) (cond (not level && eqb seen 1) (Hunting 0) (Inside (seen + 1) (oneMore bits level))) ≡ Inside seen′ bits′ → cond ends (oneMore bits level ∷ []) [] ≡ []
+      go : (ends : Bool) → cond ends (Hunting 0) (Inside (seen + 1) (oneMore bits level)) ≡ Inside seen′ bits′ → cond ends (oneMore bits level ∷ []) [] ≡ []
       go true e = never e
       go false e = refl

@@ -4,17 +4,18 @@ use mathlib.Core.Path.{_≡_, refl, ap, ap₂, _∙_}
 use mathlib.Core.Bool.{Bool, true, false, _&&_, cond}
 use mathlib.Core.List.{[], _∷_}
 use native.Mathlib.Omega.{arith}
-use borrow.Author.Tests.{eqb-true, eq-eqb}
+use lib.Dec.{eqb}
+use borrow.Author.Tests.{eqb-true}
 use Rattle.verdict.specs.Bits.{bit}
 use Rattle.frame.specs.declared.list.Transaction.{Transaction}
 use Rattle.frame.specs.declared.answer.Answer.{Answer}
 use Rattle.frame.specs.Frame.{frameBits}
 use Rattle.frame.specs.List.{isRead}
 use Rattle.frame.specs.Answers.{answerBy}
-use Rattle.wire.specs.Follower.{headerOf, headerSeen}
+use Rattle.wire.specs.Follower.{ourStart, headerOf, headerSeen}
 use Rattle.wire.specs.Machines.{headerFor}
 use Rattle.agreement.specs.Agrees.{Accepted}
-use Rattle.agreement.proofs.Rows.{headerWord, op-is, header-says}
+use Rattle.agreement.proofs.Rows.{headerWord, header-says}
 use Rattle.listener.specs.Records.{transactionIn, turnaroundIn, startsRight, isOurs, recordsOf}
 
 -- what turnaround and data, as a number of 18 bits, answer to a transaction
@@ -44,7 +45,7 @@ module _ (t : Transaction) (accepted : Accepted t) (tail : ℕ) (fits : tail < 2
       ap (λ b. record { second = b }) same
 
   starts-right : startsRight word ≡ true
-  starts-right = eq-eqb (word / 2 ^ 30) 1 (omega (arith, op-is t accepted .0, accepted .address, accepted .register))
+  starts-right = ap (λ h. eqb (h .start) ourStart) header-in
 
   is-ours : isOurs t ≡ true
   is-ours = go (isRead t) refl

@@ -1,7 +1,7 @@
 -- A frame takes 64 clocks, 32 ones and 32 bits, so few fit in a capture.
 use Prim.Native.Nat.{ℕ, _+_, _*_, _≤_, min}
 use mathlib.Core.Path.{_≡_, refl, ap, _∙_}
-use mathlib.Core.Bool.{Bool, true, false, not, _&&_, cond}
+use mathlib.Core.Bool.{Bool, true, false, _&&_, cond}
 use mathlib.Core.List.{List, [], _∷_, _++_, map, map-append}
 use native.Mathlib.Omega.{arith}
 use lib.ListN.{length, length-append, length-map}
@@ -34,13 +34,12 @@ spends false (Hunting ones) = go (leb 32 ones) refl
     go : (b : Bool) → leb 32 ones ≡ b → 0 + behind (cond b (Inside 1 0) (Hunting 0)) ≤ min ones 32 + 1
     go true e = omega (arith, leb-true 32 ones e)
     go false e = omega arith
-spends level (Inside seen bits) = go (leb 31 seen) (not level && eqb seen 1) refl
+spends level (Inside seen bits) = go (leb 31 seen) refl
   where
-    go : (ends wrong : Bool) → leb 31 seen ≡ ends →
-        64 * length (cond ends (oneMore bits level ∷ []) []) + behind (cond ends (Hunting 0) (cond wrong (Hunting 0) (Inside (seen + 1) (oneMore bits level)))) ≤ 32 + seen + 1
-    go true wrong e = omega (arith, leb-true 31 seen e)
-    go false true e = omega arith
-    go false false e = omega arith
+    go : (ends : Bool) → leb 31 seen ≡ ends →
+        64 * length (cond ends (oneMore bits level ∷ []) []) + behind (cond ends (Hunting 0) (Inside (seen + 1) (oneMore bits level))) ≤ 32 + seen + 1
+    go true e = omega (arith, leb-true 31 seen e)
+    go false e = omega arith
 
 frames-few : (f : Follower) (levels : List Bool) → 64 * length (framesFrom f levels) ≤ behind f + length levels
 unfolding framesFrom

@@ -1,14 +1,14 @@
 -- The levels of a transaction, and so those of a list, are read back as the answers: the preamble's ones are enough, and each of a frame's 32 bits comes in behind the others.
-use Prim.Native.Nat.{ℕ, zero, suc, _+_, _*_, _-_, _%_, _^_, _≤_, _<_, min}
-use mathlib.Core.Path.{_≡_, refl, ap, ap₂, sym, _∙_}
-use mathlib.Core.Bool.{Bool, true, false, not, cond, and-false}
+use Prim.Native.Nat.{ℕ, zero, suc, _+_, _*_, _-_, _/_, _%_, _^_, _≤_, _<_, min}
+use mathlib.Core.Path.{_≡_, refl, ap, ap₂, sym, subst, _∙_}
+use mathlib.Core.Bool.{Bool, true, false, cond}
 use mathlib.Core.List.{List, [], _∷_, _++_, map-append, append-assoc}
 use native.Mathlib.Omega.{arith}
 use native.Mathlib.Nat.{mod-eq-of-lt, pow-suc}
 use native.Mathlib.Numerals.{add-one}
 use lib.ListN.{length, replicate, length-map, length-append}
 use lib.Dec.{eqb}
-use borrow.Author.Tests.{lt-leb, ne-eqb}
+use borrow.Author.Tests.{lt-leb}
 use Rattle.verdict.specs.Bits.{bit, bits, shiftIn, valueOf}
 use Rattle.verdict.specs.Lists.{All}
 use Rattle.verdict.specs.Output.{tabulate, join}
@@ -20,14 +20,14 @@ use Rattle.frame.specs.Frame.{preamble}
 use Rattle.frame.specs.List.{isRead}
 use Rattle.frame.specs.Answers.{sent, answered, silent, answerTo, readAnswer}
 use Rattle.wire.specs.declared.Follower.the-variants.{Hunting, Inside}
-use Rattle.wire.specs.Follower.{oneMore, follow}
+use Rattle.wire.specs.Follower.{oneMore, follow, headerOf}
 use Rattle.wire.specs.Machines.{clocksWith}
+use Rattle.wire.proofs.Followers.{shown, shown-fits}
 use Rattle.agreement.specs.Levels.{ones, heard, heardAll, answerLevels, levelsOf, levelsOfAll}
 use Rattle.agreement.specs.Agrees.{Accepted}
-use Rattle.agreement.proofs.Phase.{shown}
 use Rattle.agreement.proofs.Seen.{shown-row}
 use Rattle.agreement.proofs.Rows.{headerRow, row-small, row-long, headerWord, row-says}
-use Rattle.listener.specs.Frames.{framesFrom}
+use Rattle.listener.specs.Frames.{atFirst, framesFrom}
 use Rattle.listener.specs.Records.{recordsOf, recordsOfAll}
 use Rattle.listener.proofs.FrameWords.{answerOf, record-of}
 
@@ -39,17 +39,29 @@ after-ones zero n rest few enough =
     ap (λ k. framesFrom (Hunting k) rest) all
 after-ones (suc m) n rest few enough = after-ones m (min (n + 1) 32) rest (omega arith) (omega arith)
 
--- inside a frame, from its third bit to its last
-in-frame : (levels rest : List Bool) (seen bits : ℕ) → 2 ≤ seen → seen ≤ 31 → seen + length levels ≡ 32 →
+-- inside a frame, to its last bit
+in-frame : (levels rest : List Bool) (seen bits : ℕ) → seen ≤ 31 → seen + length levels ≡ 32 →
     framesFrom (Inside seen bits) (levels ++ rest) ≡ shown bits levels ∷ framesFrom (Hunting 0) rest
 unfolding framesFrom follow
-in-frame [] rest seen bits started before place = absurd (omega arith)
-in-frame (level ∷ []) rest seen bits started before place =
+in-frame [] rest seen bits before place = absurd (omega arith)
+in-frame (level ∷ []) rest seen bits before place =
     let last : seen ≡ 31 = omega arith in
     rw last
-in-frame (level ∷ next ∷ levels) rest seen bits started before place =
-    rw (lt-leb 31 seen (omega arith), ne-eqb seen 1 (omega arith), and-false (not level), add-one seen)
-    (in-frame (next ∷ levels) rest (suc seen) (oneMore bits level) (omega arith) (omega arith) (omega arith))
+in-frame (level ∷ next ∷ levels) rest seen bits before place =
+    rw (lt-leb 31 seen (omega arith), add-one seen)
+    (in-frame (next ∷ levels) rest (suc seen) (oneMore bits level) (omega arith) (omega arith))
+
+-- a frame that starts 00 gives nothing, whatever its other 30 bits, and behind it the listener hunts as at first
+pub foreign-unrecorded : (levels rest : List Bool) → length levels ≡ 30 →
+    recordsOfAll (framesFrom (Inside 1 0) (false ∷ (levels ++ rest))) ≡ recordsOfAll (framesFrom atFirst rest)
+unfolding recordsOf headerOf join
+foreign-unrecorded levels rest long =
+    let frame = shown 0 levels in
+    let all : 0 + length levels ≡ 30 = omega arith in
+    let fits : frame < 2 ^ 30 = subst (λ (k : ℕ). frame < 2 ^ k) all (shown-fits levels 0 0 (omega arith) (omega arith)) in
+    let foreign : frame / 2 ^ 18 / 2 ^ 12 % 4 ≡ 0 = omega arith in
+    ap recordsOfAll (in-frame (false ∷ levels) rest 1 0 (omega arith) (omega arith))
+    ∙ rw foreign
 
 regroup : (a b c rest : List Bool) → (a ++ (b ++ (c ++ (true ∷ [])))) ++ rest ≡ a ++ ((b ++ c) ++ (true ∷ rest))
 regroup a b c rest = simp append-assoc
@@ -88,7 +100,7 @@ module _ (t : Transaction) (accepted : Accepted t) where
     frame-heard n rest few =
         ap (framesFrom (Hunting n)) (levels-apart rest)
         ∙ after-ones preamble n (false ∷ true ∷ (ones whole ++ (true ∷ rest))) few (omega arith)
-        ∙ in-frame (ones whole) (true ∷ rest) 2 1 (omega arith) (omega arith) (omega (arith, length-map whole (λ b. eqb b 1), whole-long))
+        ∙ in-frame (ones whole) (true ∷ rest) 2 1 (omega arith) (omega (arith, length-map whole (λ b. eqb b 1), whole-long))
         ∙ ap (λ word. word ∷ framesFrom (Hunting 1) rest) whole-shown
 
     reads-back : (tail : ℕ) → tail < 2 ^ 18 → shiftIn (headerWord t accepted) row ≡ headerWord t accepted * 2 ^ 18 + tail → answerOf t tail ≡ a → ReadBack t a

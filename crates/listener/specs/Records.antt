@@ -1,5 +1,5 @@
 -- The records that frames give. Document 02, E1: "A frame with start 01 and op 01 or 10, to any address, gives a record: status 0 with the data seen, or 1 or 2 by the decoder's rule. Other frames (..) give nothing."
-use Prim.Native.Nat.{ℕ, _/_, _%_, _^_}
+use Prim.Native.Nat.{ℕ, _%_, _^_}
 use mathlib.Core.Bool.{Bool, _&&_, _||_, cond}
 use mathlib.Core.List.{List, [], _∷_, map}
 use lib.Dec.{eqb}
@@ -11,7 +11,7 @@ use Rattle.frame.specs.declared.answer.Turnaround.{Turnaround}
 use Rattle.frame.specs.Frame.{frameBits}
 use Rattle.frame.specs.List.{write, isRead}
 use Rattle.frame.specs.Answers.{answerBy}
-use Rattle.wire.specs.Follower.{headerSeen}
+use Rattle.wire.specs.Follower.{ourStart, headerSeen}
 use Rattle.listener.specs.declared.Given.{Given}
 use Rattle.listener.specs.declared.Given.the-variants.{Nothing, Record}
 
@@ -27,7 +27,7 @@ turnaroundIn frame = record { second = bit 16 frame }
 
 -- "start 01"
 abbrev pub startsRight : ℕ → Bool
-startsRight frame = eqb (frame / 2 ^ 30) 1
+startsRight frame = eqb (headerSeen frameBits frame .start) ourStart
 
 -- "op 01 or 10"
 abbrev pub isOurs : Transaction → Bool

@@ -63,7 +63,7 @@ impl Given {
     fn by_frame(frame: u32) -> Given
         ensures { λ r. ⌜ recordsGiven r ≡ recordsOf frame ⌝ }
     {
-        if frame / Frame::AFTER_START_VALUES != Frame::START_BITS as u32 {
+        if Header::of(frame / Frame::TAIL_VALUES).start != Header::OUR_START {
             return Given::Nothing;
         }
         let seen = transaction_in(frame);

@@ -13,16 +13,17 @@ use lib.Pow.{pow-lt}
 use Rattle.wire.specs.Wire.{asBit, stationDrive}
 use Rattle.wire.specs.Follower.{oneMore, headerSeen}
 use Rattle.phy.specs.Words.{setBit}
+use Rattle.phy.specs.Clock.{isOwn}
 use Rattle.phy.proofs.Words.{or-bit}
 use Rattle.machine.specs.declared.line.Line.{Line}
-use Rattle.machine.specs.Lines.{isOwn, actsIn, lineActs}
+use Rattle.machine.specs.Lines.{wordless, actsIn, lineActs}
 
 -- whether the PHY acts in the next clock
 pub acts-hunting : (line : Line) (ones : ℕ) → line .follower ≡ Hunting ones → lineActs line ≡ false
 unfolding actsIn
 acts-hunting line ones e = ap (λ (f : Follower). actsIn f line) e
 
-pub acts-inside : (line : Line) (seen bits : ℕ) → line .follower ≡ Inside seen bits → lineActs line ≡ cond (eqb seen 13) (isOwn 2 (headerSeen 14 (oneMore bits false)) line) (cond (eqb seen 31) (isOwn 1 (headerSeen 32 (oneMore bits false)) line) false)
+pub acts-inside : (line : Line) (seen bits : ℕ) → line .follower ≡ Inside seen bits → lineActs line ≡ cond (eqb seen 13) (isOwn 2 (headerSeen 14 (oneMore bits false)) (wordless line)) (cond (eqb seen 31) (isOwn 1 (headerSeen 32 (oneMore bits false)) (wordless line)) false)
 unfolding actsIn
 acts-inside line seen bits e = ap (λ (f : Follower). actsIn f line) e
 

@@ -17,13 +17,14 @@ use Rattle.wire.specs.Wire.{levelOf, drivers}
 use Rattle.phy.specs.declared.Phy.{Phy}
 use Rattle.phy.specs.Fields.{withLine, withFollower, withCaptured}
 use Rattle.phy.specs.Registers.{implements}
-use Rattle.phy.specs.Clock.{enough, answers, stores, drivesIn, drives, afterFrame, atHeader, acts, clock}
+use Rattle.phy.specs.Clock.{enough, isOwn, answers, drivesIn, drives, afterFrame, atHeader, acts, clock}
 use Rattle.phy.specs.Clock.{actsIn as Phy·actsIn}
+use Rattle.phy.proofs.Headers.{unanswered, unstored, afterFrame-silent}
 use Rattle.machine.specs.declared.line.Line.{Line}
 use Rattle.machine.specs.declared.hear.Heard.{Heard}
 use Rattle.machine.specs.Log.{isDriving, marked, maskFrom, clockRecord}
 use Rattle.board.specs.Record.{addressesOf}
-use Rattle.machine.specs.Lines.{lineOf, wordless, lineDrives, isOwn, actsIn, lineActs, captures, lineFollows, onto, heardStation, hearsDrive, hears, heardFrom, recordOf}
+use Rattle.machine.specs.Lines.{lineOf, wordless, lineDrives, actsIn, lineActs, captures, lineFollows, onto, heardStation, hearsDrive, hears, heardFrom, recordOf}
 
 -- Of one PHY
 -- a PHY without its line
@@ -43,29 +44,16 @@ line-drives phy = go (phy .follower)
     go (Hunting ones) = refl
     go (Inside seen bits) = refl
 
--- a header with another op or for another address is neither answered nor stored by, whatever its last bit
-not-answered : (header : Header) (phy : Phy) → isOwn 2 header (lineOf phy) ≡ false → answers header phy ≡ false
-unfolding answers
-not-answered header phy other = go (eqb (header .op) 2) (eqb (header .address) (phy .address)) other
-  where
-    go : (a b : Bool) → a && b ≡ false → a && (b && implements (header .register) phy) ≡ false
-    go false b e = refl
-    go true false e = refl
-    go true true e = absurd (let z : _≡_ {A = ℕ} 0 1 = cc in omega arith)
-
-not-stored : (header : Header) (phy : Phy) → isOwn 1 header (lineOf phy) ≡ false → stores header phy ≡ false
-unfolding stores
-not-stored header phy other = other
-
--- op and address of a header do not go by its last bit, nor does anything of it by the frame's last bit
-same-header : (bits : ℕ) (level : Bool) (op : ℕ) (line : Line) → isOwn op (headerSeen 14 (oneMore bits level)) line ≡ isOwn op (headerSeen 14 (oneMore bits false)) line
+-- start, op and address of a header do not go by its last bit, nor does anything of it by the frame's last bit
+same-header : (bits : ℕ) (level : Bool) (op : ℕ) (phy : Phy) → isOwn op (headerSeen 14 (oneMore bits level)) phy ≡ isOwn op (headerSeen 14 (oneMore bits false)) phy
 unfolding headerOf
-same-header bits false op line = refl
-same-header bits true op line =
+same-header bits false op phy = refl
+same-header bits true op phy =
     let m = bits % 2 ^ 31 in
+    let s : (m * 2 + 1) / 2 ^ 0 / 2 ^ 12 ≡ (m * 2) / 2 ^ 0 / 2 ^ 12 = omega arith in
     let o : (m * 2 + 1) / 2 ^ 0 / 2 ^ 10 ≡ (m * 2) / 2 ^ 0 / 2 ^ 10 = omega arith in
     let a : (m * 2 + 1) / 2 ^ 0 / 2 ^ 5 ≡ (m * 2) / 2 ^ 0 / 2 ^ 5 = omega arith in
-    ap₂ (λ x y. eqb (x % 4) op && eqb (y % 32) (line .address)) o a
+    ap₂ _&&_ (ap (λ x. eqb (x % 4) 1) s) (ap₂ (λ x y. eqb (x % 4) op && eqb (y % 32) (phy .address)) o a)
 
 same-frame : (bits : ℕ) (level : Bool) → headerSeen 32 (oneMore bits level) ≡ headerSeen 32 (oneMore bits false)
 same-frame bits false = refl
@@ -78,25 +66,21 @@ header-silent : (header : Header) (phy : Phy) → answers header phy ≡ false �
 unfolding atHeader
 header-silent header phy silent = rw silent
 
-frame-silent : (header : Header) (word : ℕ) (phy : Phy) → stores header phy ≡ false → afterFrame header word phy ≡ phy
-unfolding afterFrame
-frame-silent header word phy silent = rw silent
-
 -- where a PHY does not act, its follower moves, and a frame's end captures nothing any more
 pub quiet-clock : (level : Bool) (phy : Phy) → lineActs (lineOf phy) ≡ false → clock level phy ≡ withLine (follow (enough phy) level (phy .follower)) (captures (phy .follower) (phy .captured)) phy
 unfolding clock acts actsIn
 quiet-clock level phy quiet = ap (withFollower (follow (enough phy) level (phy .follower))) (go (phy .follower) quiet)
   where
-    at-header : (bits : ℕ) → isOwn 2 (headerSeen 14 (oneMore bits false)) (lineOf phy) ≡ false → atHeader (headerSeen 14 (oneMore bits level)) phy ≡ phy
-    at-header bits other = header-silent (headerSeen 14 (oneMore bits level)) phy (not-answered _ phy (same-header bits level 2 (lineOf phy) ∙ other))
+    at-header : (bits : ℕ) → isOwn 2 (headerSeen 14 (oneMore bits false)) phy ≡ false → atHeader (headerSeen 14 (oneMore bits level)) phy ≡ phy
+    at-header bits other = header-silent (headerSeen 14 (oneMore bits level)) phy (unanswered _ phy (same-header bits level 2 phy ∙ other))
 
-    at-frame : (bits : ℕ) → isOwn 1 (headerSeen 32 (oneMore bits false)) (lineOf phy) ≡ false → afterFrame (headerSeen 32 (oneMore bits level)) (oneMore bits level % 2 ^ 16) phy ≡ phy
-    at-frame bits other = frame-silent _ _ phy (not-stored _ phy (ap (λ h. isOwn 1 h (lineOf phy)) (same-frame bits level) ∙ other))
+    at-frame : (bits : ℕ) → isOwn 1 (headerSeen 32 (oneMore bits false)) phy ≡ false → afterFrame (headerSeen 32 (oneMore bits level)) (oneMore bits level % 2 ^ 16) phy ≡ phy
+    at-frame bits other = afterFrame-silent _ phy _ (unstored _ phy (ap (λ h. isOwn 1 h phy) (same-frame bits level) ∙ other))
 
     none-both : (seen : ℕ) {A : Type 0} → eqb seen 13 ≡ true → eqb seen 31 ≡ true → A
     none-both seen a b = absurd (omega (arith, eqb-true seen 13 a, eqb-true seen 31 b))
 
-    by : (seen bits : ℕ) (a b : Bool) → cond a (isOwn 2 (headerSeen 14 (oneMore bits false)) (lineOf phy)) (cond b (isOwn 1 (headerSeen 32 (oneMore bits false)) (lineOf phy)) false) ≡ false → eqb seen 13 ≡ a → eqb seen 31 ≡ b → acts seen (oneMore bits level) phy ≡ withCaptured (cond b 0 (phy .captured)) phy
+    by : (seen bits : ℕ) (a b : Bool) → cond a (isOwn 2 (headerSeen 14 (oneMore bits false)) phy) (cond b (isOwn 1 (headerSeen 32 (oneMore bits false)) phy) false) ≡ false → eqb seen 13 ≡ a → eqb seen 31 ≡ b → acts seen (oneMore bits level) phy ≡ withCaptured (cond b 0 (phy .captured)) phy
     by seen bits true true other e13 e31 = none-both seen e13 e31
     by seen bits true false other e13 e31 = rw e13 (at-header bits other)
     by seen bits false true other e13 e31 = rw (e13, e31) (ap (withCaptured 0) (at-frame bits other))

@@ -10,14 +10,13 @@ use Rattle.wire.specs.declared.Drive.{Drive}
 use Rattle.wire.specs.declared.Drive.the-variants.{Released, Driven}
 use Rattle.wire.specs.declared.Follower.{Follower}
 use Rattle.wire.specs.declared.Follower.the-variants.{Hunting, Inside}
-use Rattle.wire.specs.declared.Header.{Header}
 use Rattle.wire.specs.Wire.{asBit}
 use Rattle.wire.specs.Follower.{oneMore, follow, headerSeen}
 use Rattle.phy.specs.declared.Phy.{Phy}
 use Rattle.phy.specs.Words.{setBit}
 use Rattle.phy.specs.Fields.{withLine}
 use Rattle.phy.specs.Sound.{nowhere}
-use Rattle.phy.specs.Clock.{fresh, enough, takes, drives}
+use Rattle.phy.specs.Clock.{fresh, enough, isOwn, drives}
 use Rattle.verdict.specs.File.{records}
 use Rattle.verdict.specs.Output.{tabulate}
 use Rattle.board.specs.Events.{eventRecord, eventClock}
@@ -50,15 +49,12 @@ wordless line = onto line (fresh (line .address) (line .implemented) (replicate 
 abbrev pub lineDrives : Line → Drive
 lineDrives line = drives (wordless line)
 
--- whether the next bit may end an own read's header or ends an own write: only there the whole PHY acts. Op and address are known before that bit, whatever its level
-abbrev pub isOwn : ℕ → Header → Line → Bool
-isOwn op header line = eqb (header .op) op && takes (header .address) (wordless line)
-
+-- whether the next bit may end an own read's header or ends an own write: only there the whole PHY acts. Start, op and address are known before that bit, whatever its level
 unfoldable pub actsIn : Follower → Line → Bool
 actsIn (Hunting ones) line = false
 actsIn (Inside seen bits) line =
-    cond (eqb seen (headerBits - 1)) (isOwn read (headerSeen headerBits (oneMore bits false)) line)
-    (cond (eqb seen (frameBits - 1)) (isOwn write (headerSeen frameBits (oneMore bits false)) line)
+    cond (eqb seen (headerBits - 1)) (isOwn read (headerSeen headerBits (oneMore bits false)) (wordless line))
+    (cond (eqb seen (frameBits - 1)) (isOwn write (headerSeen frameBits (oneMore bits false)) (wordless line))
     false)
 
 abbrev pub lineActs : Line → Bool

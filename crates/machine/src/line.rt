@@ -4,7 +4,7 @@ ghost use Prim.Native.Nat.{_≤_};
 ghost use Rattle.phy.specs.Fields.{withLine};
 ghost use mathlib.Core.List.{map};
 ghost use Rattle.machine.specs.Common.{standing};
-ghost use Rattle.machine.specs.Lines.{lineOf, wordless, lineDrives, isOwn, lineActs, captures, lineFollows, joinedBoard};
+ghost use Rattle.machine.specs.Lines.{lineOf, wordless, lineDrives, lineActs, captures, lineFollows, joinedBoard};
 use crate::common::Common;
 use board::Board;
 use frame::Frame;
@@ -71,13 +71,6 @@ impl Line {
         self.wordless().drives()
     }
 
-    // Whether a header has this op and is for this PHY.
-    fn is_own(self, op: u8, header: Header) -> bool
-        ensures { λ r. ⌜ r ≡ isOwn op header self ⌝ }
-    {
-        (header.op == op) & self.wordless().takes(header.address)
-    }
-
     // Whether the next bit may end the header of an own read, or ends an own write: the whole PHY acts then.
     pub(crate) fn acts(self) -> bool
         ensures { λ r. ⌜ r ≡ lineActs self ⌝ }
@@ -88,9 +81,13 @@ impl Line {
         };
         let shifted = Follower::one_more(bits, false);
         match seen {
-            Phy::BEFORE_HEADER => self.is_own(Transaction::READ, Header::of(shifted)),
+            Phy::BEFORE_HEADER => {
+                self.wordless()
+                    .is_own(Transaction::READ, Header::of(shifted))
+            }
             Follower::MOST_SEEN => {
-                self.is_own(Transaction::WRITE, Header::of(shifted / Frame::TAIL_VALUES))
+                let header = Header::of(shifted / Frame::TAIL_VALUES);
+                self.wordless().is_own(Transaction::WRITE, header)
             }
             _ => false,
         }

@@ -24,6 +24,7 @@ fn header_for(transaction: Transaction) -> Header
     ensures { λ r. ⌜ r ≡ headerFor transaction ⌝ }
 {
     Header {
+        start: Header::OUR_START,
         op: transaction.op,
         address: transaction.address,
         register: transaction.register,

@@ -83,3 +83,29 @@ word-from-17 = refl
 word-goes-on : drives (clocks (true ∷ false ∷ false ∷ []) reading) ≡ Driven true
 unfolding computing
 word-goes-on = refl
+
+-- A Clause 45 write of 0ABC to port 10, device 3, on the wire of a PHY at address 1 that accepts suppressed preambles (1.6 is one) and has register 24 to write: 00, 01, 01010, 00011, 10, then the word
+abbrev pub phyFast : Phy
+phyFast = fresh 1 0x0100000F (0x3000 ∷ 0x7849 ∷ replicate 30 0) (replicate 24 0 ++ (0xFFFF ∷ replicate 7 0))
+
+abbrev payload : List Bool
+payload =
+    false ∷ true
+    ∷ false ∷ true ∷ false ∷ true ∷ false
+    ∷ false ∷ false ∷ false ∷ true ∷ true
+    ∷ true ∷ false
+    ∷ false ∷ false ∷ false ∷ false ∷ true ∷ false ∷ true ∷ false ∷ true ∷ false ∷ true ∷ true ∷ true ∷ true ∷ false ∷ false ∷ []
+
+-- to a PHY that hunts behind the 00 its other 30 bits, with four ones behind them, are a start and a write of ABCF
+payload-writes : registerOf 24 (clocks (payload ++ replicate 4 true) phyFast) ≡ 0xABCF
+unfolding computing
+payload-writes = refl
+
+-- but it does not hunt there
+foreign-not-stored : clocks (true ∷ false ∷ false ∷ payload) phyFast ≡ phyFast
+unfolding computing
+foreign-not-stored = refl
+
+foreign-then-ones : registerOf 24 (clocks (true ∷ false ∷ false ∷ (payload ++ replicate 4 true)) phyFast) ≡ 0
+unfolding computing
+foreign-then-ones = refl

@@ -1,97 +1,43 @@
 -- What stays true of a frame while its bits come in: how it started, its header, and that only an own read has a captured word.
-use Prim.Native.Nat.{ℕ, suc, _+_, _-_, _*_, _/_, _^_, _≤_, _<_}
+use Prim.Native.Nat.{ℕ, suc, _+_, _-_, _^_, _≤_, _<_}
 use mathlib.Core.Path.{_≡_, refl, sym, ap, ap₂, subst, _∙_}
 use mathlib.Core.Logic.{_⊎_, inl, inr}
-use mathlib.Core.Bool.{Bool, true, false, not, _&&_, cond, true≢false}
+use mathlib.Core.Bool.{Bool, true, false, cond}
 use native.Mathlib.Omega.{arith}
-use native.Mathlib.Nat.{pow-suc, lt-of-lt-of-le}
+use native.Mathlib.Numerals.{add-one}
 use native.Mathlib.Decide.{ℕ-discrete}
-use lib.Dec.{eqb}
-use borrow.Author.Tests.{eq-eqb}
-use lib.Pow.{pow-mono, shr-shr}
 use Rattle.wire.specs.declared.Follower.{Follower}
 use Rattle.wire.specs.declared.Follower.the-variants.{Hunting, Inside}
 use Rattle.wire.specs.declared.Header.{Header}
-use Rattle.wire.specs.Follower.{oneMore, follow, headerOf, headerSeen}
+use Rattle.wire.specs.Follower.{oneMore, follow, headerSeen}
+use Rattle.wire.proofs.Followers.{more-fits, header-stays, follow-keeps, goes-on}
 use Rattle.phy.specs.declared.Phy.{Phy}
 use Rattle.phy.specs.Fields.{withLine}
 use Rattle.phy.specs.Registers.{implements}
 use Rattle.phy.specs.Clock.{enough, answers, word, afterHeader, clock}
-use Rattle.phy.proofs.Followers.{follow-keeps, goes-on}
 use Rattle.phy.proofs.Clocks.{OwnRead}
 use Rattle.phy.proofs.Lines.{clock-hunting, clock-inside, clock-header, clock-frame}
 use Rattle.phy.proofs.Effects.{afterHeader-effect}
 use Rattle.phy.proofs.Keeping.{keeps-answers}
 
--- "hunting with 0 to 32 ones, or inside a frame with 1 to 31 bits, the first 0 and any second 1"
+-- "hunting with 0 to 32 ones, or inside a frame with 1 to 31 bits, the first 0"
 abbrev pub Started : Follower → Type 0
 Started (Hunting ones) = ones ≤ 32
-Started (Inside seen bits) = (1 ≤ seen) × (seen ≤ 31) × (bits < 2 ^ (seen - 1)) × (1 < seen → bits / 2 ^ (seen - 2) ≡ 1)
-
--- one bit more behind bits that leave room for it
-last-bit : (bits : ℕ) (level : Bool) → bits < 2 ^ 31 → oneMore bits level / 2 ≡ bits
-last-bit bits true h = omega arith
-last-bit bits false h = omega arith
-
-more-lt : (bits n : ℕ) (level : Bool) → bits < 2 ^ 31 → bits < n → oneMore bits level < n * 2
-more-lt bits n true h l = omega arith
-more-lt bits n false h l = omega arith
-
--- the bits but for the last k are, with one bit more, those but for the last k + 1
-pub front-stays : (bits k : ℕ) (level : Bool) → bits < 2 ^ 31 → oneMore bits level / 2 ^ suc k ≡ bits / 2 ^ k
-front-stays bits k level h =
-    let one-more : suc k ≡ 1 + k = omega arith in
-    ap (λ (n : ℕ). oneMore bits level / 2 ^ n) one-more
-    ∙ sym (shr-shr (oneMore bits level) 1 k)
-    ∙ ap (λ (x : ℕ). x / 2 ^ k) (last-bit bits level h)
-
-roomy : (seen bits : ℕ) → Started (Inside seen bits) → bits < 2 ^ 31
-roomy seen bits s = lt-of-lt-of-le (s .2) (pow-mono {i = seen - 1} {j = 31} (omega arith))
-
--- the second bit is 1: it comes in with the level, or it stays
-second : (level : Bool) (seen bits : ℕ) → Started (Inside seen bits) → (not level && eqb seen 1) ≡ false → Dec (seen ≡ 1)
-    → oneMore bits level / 2 ^ (seen + 1 - 2) ≡ 1
-second true seen bits s right (yes e) =
-    let place : seen + 1 - 2 ≡ 0 = omega arith in
-    let first : seen - 1 ≡ 0 = omega arith in
-    let below : 2 ^ (seen - 1) ≡ 1 = ap (λ (k : ℕ). 2 ^ k) first in
-    let none : bits ≡ 0 = omega arith in
-    ap₂ (λ (b k : ℕ). oneMore b true / 2 ^ k) none place
-second false seen bits s right (yes e) = absurd (true≢false (sym (eq-eqb seen 1 e) ∙ right))
-second level seen bits s right (no e) =
-    let place : seen + 1 - 2 ≡ suc (seen - 2) = omega arith in
-    ap (λ (k : ℕ). oneMore bits level / 2 ^ k) place
-    ∙ front-stays bits (seen - 2) level (roomy seen bits s)
-    ∙ s .3 (omega arith)
+Started (Inside seen bits) = (1 ≤ seen) × (seen ≤ 31) × (bits < 2 ^ (seen - 1))
 
 pub follow-started : (n : ℕ) (level : Bool) (f : Follower) → Started f → Started (follow n level f)
 follow-started =
-    follow-keeps Started (omega arith) (omega arith, omega arith, omega arith, λ h. absurd (omega arith)) (λ ones. omega arith)
-    (λ level seen bits s l right.
-    let wider : 2 ^ (seen + 1 - 1) ≡ 2 ^ (seen - 1) * 2 = widen seen (s .0) in (
-      omega arith,
-      omega arith,
-      omega (arith, wider, more-lt bits (2 ^ (seen - 1)) level (roomy seen bits s) (s .2)),
-      λ h. second level seen bits s right (ℕ-discrete seen 1),
-    ))
-  where
-    widen : (seen : ℕ) → 1 ≤ seen → 2 ^ (seen + 1 - 1) ≡ 2 ^ (seen - 1) * 2
-    widen seen h =
-        let place : seen + 1 - 1 ≡ suc (seen - 1) = omega arith in
-        ap (λ (k : ℕ). 2 ^ k) place ∙ pow-suc 2 (seen - 1)
-
--- a header stays what it is while the frame goes on
-pub header-stays : (seen bits : ℕ) (level : Bool) → 14 ≤ seen → bits < 2 ^ 31 → headerSeen (seen + 1) (oneMore bits level) ≡ headerSeen seen bits
-header-stays seen bits level from room =
-    let place : seen + 1 - 14 ≡ suc (seen - 14) = omega arith in
-    ap headerOf (ap (λ (k : ℕ). oneMore bits level / 2 ^ k) place ∙ front-stays bits (seen - 14) level room)
+    follow-keeps Started (omega arith) (omega arith, omega arith, omega arith) (λ ones. omega arith)
+    (λ level seen bits s l.
+    let place : suc (seen - 1) ≡ seen + 1 - 1 = omega arith in
+    (omega arith, omega arith, subst (λ (k : ℕ). oneMore bits level < 2 ^ k) place (more-fits (seen - 1) bits (s .2) (omega arith) level)))
 
 -- "a captured word, of any value, only in an own read of an implemented register from its 14th bit on, else 0"
 abbrev pub CapturedOnly : Phy → Type 0
 CapturedOnly phy = (phy .captured ≡ 0) ⊎ OwnRead 14 phy
 
 -- what is known of an own read with these bits
-own-here : (phy : Phy) (seen bits : ℕ) → phy .follower ≡ Inside seen bits → OwnRead 14 phy
+pub own-here : (phy : Phy) (seen bits : ℕ) → phy .follower ≡ Inside seen bits → OwnRead 14 phy
     → (14 ≤ seen) × (answers (headerSeen seen bits) phy ≡ true)
 own-here phy seen bits now read =
     let same-seen : read .seen ≡ seen = cc (read .now) in
@@ -120,10 +66,10 @@ module _ (level : Bool) (phy : Phy) where
       after (inr read) =
           let own = own-here phy seen bits now read in
           inr record {
-            seen = seen + 1;
+            seen = suc seen;
             bits = oneMore bits level;
-            now = goes-on (enough phy) level seen bits (omega arith) (omega arith);
-            own = ap (λ h. answers h phy) (header-stays seen bits level (own .0) (roomy seen bits s)) ∙ own .1;
+            now = goes-on (enough phy) level seen bits (omega arith) ∙ ap (λ (k : ℕ). Inside k (oneMore bits level)) (add-one seen);
+            own = ap (λ h. answers h phy) (header-stays (seen - 1) bits (s .2) (omega arith) level seen (own .0)) ∙ own .1;
             from = omega arith;
             upto = omega arith;
           }

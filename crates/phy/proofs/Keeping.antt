@@ -1,7 +1,7 @@
 -- What every effect and every clock keeps of a PHY: its record, `enough`, whom it answers, its types.
 use Prim.Native.Nat.{ℕ, _+_, _%_, _^_, _≤_, _<_}
 use mathlib.Core.Path.{_≡_, refl, sym, ap, subst, _∙_}
-use mathlib.Core.Bool.{Bool, true, false, not, _&&_, cond}
+use mathlib.Core.Bool.{Bool, true, false, cond}
 use mathlib.Core.List.{List}
 use native.Mathlib.Omega.{arith}
 use lib.Dec.{eqb}
@@ -9,6 +9,7 @@ use Rattle.wire.specs.declared.Follower.{Follower}
 use Rattle.wire.specs.declared.Follower.the-variants.{Hunting, Inside}
 use Rattle.wire.specs.declared.Header.{Header}
 use Rattle.wire.specs.Follower.{oneMore, follow, headerSeen}
+use Rattle.wire.proofs.Followers.{follow-keeps}
 use Rattle.phy.specs.declared.Phy.{Phy}
 use Rattle.phy.specs.Abilities.{one}
 use Rattle.phy.specs.Fields.{registerOf, defaultOf, recordOf, withBank, withLine}
@@ -16,7 +17,6 @@ use Rattle.phy.specs.Registers.{implements}
 use Rattle.phy.specs.Clock.{fresh, enough, answers, stores, word, afterHeader, afterFrame, acts, atHeader, clock}
 use Rattle.phy.specs.Typed.{Words, TypedFollower, Typed, StatusFixed, Steady}
 use Rattle.phy.proofs.Clocks.{clock-by}
-use Rattle.phy.proofs.Followers.{follow-keeps}
 use Rattle.phy.proofs.Effects.{Effect, nothing, afterHeader-effect, afterFrame-effect}
 
 -- a PHY accepts at most 32 ones as enough, and at least 1
@@ -182,8 +182,8 @@ module _ (level : Bool) (phy : Phy) where
       shifted bits true = omega arith
       shifted bits false = omega arith
 
-      more : (l : Bool) (seen bits : ℕ) → TypedFollower (Inside seen bits) → seen < 31 → (not l && eqb seen 1) ≡ false → TypedFollower (Inside (seen + 1) (oneMore bits l))
-      more l seen bits p h right = (omega arith, shifted bits l)
+      more : (l : Bool) (seen bits : ℕ) → TypedFollower (Inside seen bits) → seen < 31 → TypedFollower (Inside (seen + 1) (oneMore bits l))
+      more l seen bits p h = (omega arith, shifted bits l)
 
 -- A fresh PHY
 pub fresh-typed : (address implemented : ℕ) (defaults masks : List ℕ) → address < 2 ^ 8 → implemented < 2 ^ 32

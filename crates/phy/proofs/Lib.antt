@@ -6,6 +6,7 @@ pub mod Clocks
 pub mod Derived
 pub mod Effects
 pub mod Every
+pub mod Foreign
 pub mod Examples
 pub mod Followers
 pub mod Frames

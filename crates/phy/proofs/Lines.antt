@@ -9,11 +9,11 @@ use Rattle.wire.specs.declared.Follower.{Follower}
 use Rattle.wire.specs.declared.Follower.the-variants.{Hunting, Inside}
 use Rattle.wire.specs.declared.Header.{Header}
 use Rattle.wire.specs.Follower.{oneMore, follow, headerSeen, answering}
+use Rattle.wire.proofs.Followers.{goes-on}
 use Rattle.phy.specs.declared.Phy.{Phy}
 use Rattle.phy.specs.Fields.{withLine, withFollower}
 use Rattle.phy.specs.Registers.{implements}
 use Rattle.phy.specs.Clock.{enough, answers, word, afterHeader, afterFrame, drivesIn, drives, atHeader, acts, clock}
-use Rattle.phy.proofs.Followers.{goes-on}
 use Rattle.phy.proofs.Headers.{afterHeader-silent}
 use Rattle.phy.proofs.Effects.{afterHeader-effect, afterFrame-effect}
 
@@ -64,7 +64,7 @@ module _ (level : Bool) (bits captured : ℕ) (phy : Phy) where
       (afterHeader (headerSeen 14 (oneMore bits level)) phy)
   unfolding clock acts
   clock-header =
-      ap (λ f. withFollower f (atHeader (headerSeen 14 (oneMore bits level)) inFrame)) (goes-on (enough inFrame) level 13 bits (omega arith) (omega arith))
+      ap (λ f. withFollower f (atHeader (headerSeen 14 (oneMore bits level)) inFrame)) (goes-on (enough inFrame) level 13 bits (omega arith))
       ∙ at-header (headerSeen 14 (oneMore bits level))
 
 -- "Own write: stored at the 32nd bit"; then hunting with 0 ones, and nothing is captured any more

@@ -2,14 +2,14 @@
 use Prim.Native.Nat.{ℕ, _-_, _/_, _^_, _<_}
 use mathlib.Core.Path.{_≡_, refl, sym, ap, subst, _∙_}
 use mathlib.Core.Logic.{inl, inr}
-use mathlib.Core.Bool.{Bool, true, false, not, _&&_, _||_, cond, or-true}
+use mathlib.Core.Bool.{Bool, true, false, not, _&&_, _||_, cond, or-true, true≢false}
 use mathlib.Core.List.{List}
 use native.Mathlib.Omega.{arith}
 use native.Mathlib.Nat.{div-eq-of-lt, div-lt-iff-lt-mul, one-mul}
 use native.Mathlib.Decide.{ℕ-discrete}
 use lib.Dec.{eqb, leb}
 use lib.Pow.{pow-pos}
-use borrow.Author.Tests.{eq-eqb, eqb-true, eqb-false, le-leb, lt-leb, leb-true, leb-false, not-true}
+use borrow.Author.Tests.{eq-eqb, eqb-true, eqb-false, le-leb, leb-true, not-true}
 use Rattle.wire.specs.declared.Follower.{Follower}
 use Rattle.wire.specs.declared.Follower.the-variants.{Hunting, Inside}
 use Rattle.wire.specs.declared.Header.{Header}
@@ -22,14 +22,16 @@ use Rattle.phy.specs.Events.{event}
 use Rattle.phy.specs.Clock.{enough, answers, stores, afterHeader, afterFrame, clock}
 use Rattle.phy.specs.Typed.{Typed}
 use Rattle.phy.specs.Record.{registerSetRight, unimplementedZero, masksZero, statusClear, extendedClear, someAbility, controlDerived, wordsRight, defaultsRight}
-use Rattle.phy.specs.Sound.{registersStand, othersAtDefault, followerSound, firstBits, inOwnRead, capturedSound, phySound}
+use Rattle.phy.specs.Sound.{registersStand, othersAtDefault, followerSound, firstBit, inOwnRead, capturedSound, phySound}
 use Rattle.phy.proofs.Every.{both}
 use Rattle.phy.proofs.Implemented.{implemented-below}
 use Rattle.phy.proofs.Clauses.{Bank, Clauses, sound-clauses, clauses-sound}
 use Rattle.phy.proofs.Clocks.{OwnRead}
 use Rattle.phy.proofs.Lines.{clock-hunting, clock-inside, clock-header, clock-frame}
 use Rattle.phy.proofs.Followers.{clock-follows}
-use Rattle.phy.proofs.Frames.{Started, follow-started, CapturedOnly, clock-captured}
+use Rattle.phy.proofs.Frames.{Started, follow-started, CapturedOnly, own-here, clock-captured}
+use Rattle.phy.proofs.Headers.{foreign-unanswered}
+use Rattle.phy.proofs.Foreign.{Foreign, not-ours}
 use Rattle.phy.proofs.Effects.{Effect, event-effect, afterRead-effect, afterHeader-effect, afterWrite-effect, afterFrame-effect}
 use Rattle.phy.proofs.Keeping.{keeps-typed, clock-record, clock-typed}
 use Rattle.phy.proofs.Banks.{event-bank, read-bank, ordinary-bank}
@@ -153,7 +155,7 @@ afterWrite-sound r word p s = kept-by (afterWrite-effect r word) p s (after-writ
 pub afterFrame-sound : (header : Header) (word : ℕ) (p : Phy) → SoundPhy p → SoundPhy (afterFrame header word p)
 afterFrame-sound header word p s = kept-by (afterFrame-effect header word) p s (after-frame p s header word)
 
--- The follower: "hunting with 0 to 32 ones, or inside a frame with 1 to 31 bits, the first 0 and any second 1"
+-- The follower: "hunting with 0 to 32 ones, or inside a frame with 1 to 31 bits, the first 0"
 below-power : (bits k : ℕ) → bits / 2 ^ k ≡ 0 → bits < 2 ^ k
 below-power bits k e = subst (λ (m : ℕ). bits < m) (one-mul (2 ^ k)) (div-lt-iff-lt-mul (pow-pos k) .0 (omega (arith, e)))
 
@@ -161,25 +163,14 @@ sound-started : (f : Follower) → followerSound f ≡ true → Started f
 unfolding followerSound
 sound-started (Hunting ones) h = leb-true ones 32 h
 sound-started (Inside seen bits) h =
-    let second = leb seen 1 || eqb (firstBits 2 seen bits) 1 in
-    let least = both (leb 1 seen) (leb seen 31 && (eqb (firstBits 1 seen bits) 0 && second)) h in
-    let most = both (leb seen 31) (eqb (firstBits 1 seen bits) 0 && second) (least .1) in
-    let starts = both (eqb (firstBits 1 seen bits) 0) second (most .1) in (
-      leb-true 1 seen (least .0),
-      leb-true seen 31 (most .0),
-      below-power bits (seen - 1) (eqb-true (firstBits 1 seen bits) 0 (starts .0)),
-      λ past. eqb-true (firstBits 2 seen bits) 1 (rw (lt-leb seen 1 past) at (starts .1)),
-    )
+    let least = both (leb 1 seen) (leb seen 31 && eqb (firstBit seen bits) 0) h in
+    let most = both (leb seen 31) (eqb (firstBit seen bits) 0) (least .1) in
+    (leb-true 1 seen (least .0), leb-true seen 31 (most .0), below-power bits (seen - 1) (eqb-true (firstBit seen bits) 0 (most .1)))
 
 started-sound : (f : Follower) → Started f → followerSound f ≡ true
 unfolding followerSound
 started-sound (Hunting ones) h = le-leb ones 32 h
-started-sound (Inside seen bits) h =
-    rw (le-leb 1 seen (h .0), le-leb seen 31 (h .1), eq-eqb (firstBits 1 seen bits) 0 (div-eq-of-lt (h .2))) (go (leb seen 1) refl)
-  where
-    go : (t : Bool) → leb seen 1 ≡ t → (t || eqb (firstBits 2 seen bits) 1) ≡ true
-    go true e = refl
-    go false e = eq-eqb (firstBits 2 seen bits) 1 (h .3 (leb-false seen 1 e))
+started-sound (Inside seen bits) h = rw (le-leb 1 seen (h .0), le-leb seen 31 (h .1), eq-eqb (firstBit seen bits) 0 (div-eq-of-lt (h .2)))
 
 -- The captured word: "only in an own read of an implemented register from its 14th bit on, else 0"
 sound-captured : (p : Phy) → capturedSound p ≡ true → CapturedOnly p
@@ -196,6 +187,16 @@ sound-captured p h = go (inOwnRead p (p .follower)) refl
     go : (t : Bool) → inOwnRead p (p .follower) ≡ t → CapturedOnly p
     go true e = inr (reads (p .follower) refl e)
     go false e = inl (eqb-true (p .captured) 0 (rw e at h))
+
+-- so in a frame that starts 00 a sound PHY has captured nothing
+pub foreign-empty : (p : Phy) (seen bits : ℕ) → phySound p ≡ true → p .follower ≡ Inside seen bits → Foreign seen bits → p .captured ≡ 0
+foreign-empty p seen bits sound now f = go (sound-captured p (sound-clauses p sound .captured-sound))
+  where
+    go : CapturedOnly p → p .captured ≡ 0
+    go (inl none) = none
+    go (inr read) =
+        let own = own-here p seen bits now read in
+        absurd (true≢false (sym (own .1) ∙ foreign-unanswered (headerSeen seen bits) p (not-ours seen bits (own .0) (f .zeros))))
 
 captured-sound : (p : Phy) → CapturedOnly p → capturedSound p ≡ true
 unfolding inOwnRead

@@ -10,7 +10,7 @@ use Rattle.wire.specs.declared.Drive.the-variants.{Released}
 use Rattle.wire.specs.declared.Follower.{Follower}
 use Rattle.wire.specs.declared.Follower.the-variants.{Hunting, Inside}
 use Rattle.wire.specs.declared.Header.{Header}
-use Rattle.wire.specs.Follower.{oneMore, follow, headerSeen, answering}
+use Rattle.wire.specs.Follower.{oneMore, follow, ourStart, headerSeen, answering}
 use Rattle.wire.specs.Wire.{Party}
 use Rattle.wire.specs.Machines.{Core}
 use Rattle.phy.specs.declared.Phy.{Phy}
@@ -40,13 +40,17 @@ enough phy = cond (one 6 (registerOf 1 phy)) 1 32
 abbrev pub takes : ℕ → Phy → Bool
 takes address phy = eqb address (phy .address)
 
+-- whether a header is an own one with this op. Document 02, E2: "after a start of 00 the follower passes over the other 30 bits, driving and storing nothing"
+abbrev pub isOwn : ℕ → Header → Phy → Bool
+isOwn op header phy = eqb (header .start) ourStart && (eqb (header .op) op && takes (header .address) phy)
+
 -- "Own read of an implemented register"
 unfoldable pub answers : Header → Phy → Bool
-answers header phy = eqb (header .op) read && (takes (header .address) phy && implements (header .register) phy)
+answers header phy = isOwn read header phy && implements (header .register) phy
 
 -- "Own write"
 unfoldable pub stores : Header → Phy → Bool
-stores header phy = eqb (header .op) write && takes (header .address) phy
+stores header phy = isOwn write header phy
 
 -- the word that a read returns
 abbrev pub word : Header → Phy → ℕ

@@ -100,16 +100,14 @@ completeNegotiates p = one 5 (statusOf p) implies (one 12 (controlOf p) && not (
 abbrev pub heldLinkUp : Phy → Bool
 heldLinkUp p = one 2 (statusOf p) implies p .link
 
--- the number that the first n of the bits seen say
-abbrev pub firstBits : ℕ → ℕ → ℕ → ℕ
-firstBits n seen bits = bits / 2 ^ (seen - n)
+-- the first of the bits seen
+abbrev pub firstBit : ℕ → ℕ → ℕ
+firstBit seen bits = bits / 2 ^ (seen - 1)
 
--- "hunting with 0 to 32 ones, or inside a frame with 1 to 31 bits, the first 0 and any second 1"
+-- "hunting with 0 to 32 ones, or inside a frame with 1 to 31 bits, the first 0"; document 02, E2: "may now have a second bit of 0"
 unfoldable pub followerSound : Follower → Bool
 followerSound (Hunting ones) = leb ones 32
-followerSound (Inside seen bits) =
-    leb 1 seen
-    && (leb seen (frameBits - 1) && (eqb (firstBits 1 seen bits) 0 && (leb seen 1 || eqb (firstBits 2 seen bits) 1)))
+followerSound (Inside seen bits) = leb 1 seen && (leb seen (frameBits - 1) && eqb (firstBit seen bits) 0)
 
 -- "in an own read of an implemented register from its 14th bit on"
 unfoldable pub inOwnRead : Phy → Follower → Bool

@@ -3,7 +3,7 @@ ghost use mathlib.Core.Path.{_≡_};
 ghost use Prim.Native.Nat.{_≤_};
 ghost use Rattle.wire.specs.Follower.{answering};
 ghost use Rattle.phy.specs.Fields.{withFollower, withCaptured};
-ghost use Rattle.phy.specs.Clock.{fresh, enough, takes, answers, stores, afterHeader, afterFrame, drives, atHeader, acts, clock};
+ghost use Rattle.phy.specs.Clock.{fresh, enough, takes, isOwn, answers, stores, afterHeader, afterFrame, drives, atHeader, acts, clock};
 use crate::Phy;
 use crate::status::Status;
 use frame::Frame;
@@ -56,19 +56,25 @@ impl Phy {
         address == self.address
     }
 
+    // Whether a header is an own one with this op: of a frame of ours, to an address that this PHY takes.
+    pub fn is_own(self, op: u8, header: Header) -> bool
+        ensures { λ r. ⌜ r ≡ isOwn op header self ⌝ }
+    {
+        (header.start == Header::OUR_START) & ((header.op == op) & self.takes(header.address))
+    }
+
     // Whether a header is an own read of an implemented register.
     pub fn answers(self, header: Header) -> bool
         ensures { λ r. ⌜ r ≡ answers header self ⌝ }
     {
-        (header.op == Transaction::READ)
-            & (self.takes(header.address) & self.implements(header.register))
+        self.is_own(Transaction::READ, header) & self.implements(header.register)
     }
 
     // Whether a header is an own write.
     pub fn stores(self, header: Header) -> bool
         ensures { λ r. ⌜ r ≡ stores header self ⌝ }
     {
-        (header.op == Transaction::WRITE) & self.takes(header.address)
+        self.is_own(Transaction::WRITE, header)
     }
 
     fn with_follower(self, follower: Follower) -> Phy

@@ -2,13 +2,13 @@
 use Prim.Native.Nat.{ℕ, suc, _+_, _≤_, _<_}
 use mathlib.Core.Path.{_≡_, refl, ap, ap₂, sym, _∙_, subst}
 use mathlib.Core.Bool.{Bool}
-use mathlib.Core.List.{List, [], _∷_, _++_, map, map-append}
+use mathlib.Core.List.{List, [], _∷_, _++_, map, map-append, map-id}
 use native.Mathlib.Omega.{arith}
 use lib.ListN.{length, length-append}
 use Rattle.verdict.specs.Lists.{All}
-use Rattle.verdict.proofs.Elements.{all-of, all-append, map-same}
+use Rattle.verdict.proofs.Elements.{all-of, all-append, map-same, map-then}
 use Rattle.wire.specs.declared.Drive.{Drive}
-use Rattle.wire.specs.Wire.{Party, levelOf, drivers, drivesOf, eventsAfter, runs, driven}
+use Rattle.wire.specs.Wire.{Party, levelOf, drivers, drivesOf, eventsAfter, runs, driven, sampled}
 
 module _ {P : Type 0} (party : Party P) where
   pub runs-append : (a b : List Drive) (c c′ : ℕ) (ps : List P) → c′ ≡ c + length a →
@@ -26,6 +26,18 @@ module _ {P : Type 0} (party : Party P) where
       let here : c ≡ c′ = omega arith in
       ap (λ k. driven party b k ps) here
   driven-append (d ∷ a) b c c′ ps e = ap (λ es. drivesOf party d ps ∷ es) (driven-append a b (suc c) c′ _ (omega arith))
+
+  -- whatever the others do, a party of a run goes by its levels
+  pub runs-sampled : (ds : List Drive) (c : ℕ) (ps : List P) → runs party ds c ps ≡ map (sampled party (map levelOf (driven party ds c ps)) c) ps
+  unfolding runs driven sampled
+  runs-sampled [] c ps = sym (map-id ps)
+  runs-sampled (d ∷ ds) c ps =
+      let level = levelOf (drivesOf party d ps) in
+      let next = eventsAfter party (suc c) (map (party .samples level) ps) in
+      let rest : P → P = sampled party (map levelOf (driven party ds (suc c) next)) (suc c) in
+      runs-sampled ds (suc c) next
+      ∙ map-then rest (party .happens (suc c)) (λ p. rest (party .happens (suc c) p)) (λ p. refl) (map (party .samples level) ps)
+      ∙ map-then (λ p. rest (party .happens (suc c) p)) (party .samples level) (λ p. rest (party .happens (suc c) (party .samples level p))) (λ p. refl) ps
 
   -- a run in which nobody drives against another: its levels, and the clock and the parties that it ends with
   pub record Goes (drives : List Drive) (c : ℕ) (ps : List P) (levels : List Bool) (c′ : ℕ) (qs : List P) : Type 0 where

@@ -1,6 +1,6 @@
 -- Document 01, "The PHY's follower".
 use Prim.Native.Nat.{ℕ, _+_, _*_, _-_, _/_, _%_, _^_, min}
-use mathlib.Core.Bool.{Bool, true, false, not, _&&_, cond}
+use mathlib.Core.Bool.{Bool, true, false, _&&_, cond}
 use lib.Dec.{leb, eqb}
 use Rattle.verdict.specs.Bits.{bit}
 use Rattle.frame.specs.Frame.{headerBits, frameBits}
@@ -20,25 +20,22 @@ abbrev pub oneMore : ℕ → Bool → ℕ
 oneMore bits true = bits % 2 ^ 31 * 2 + 1
 oneMore bits false = bits % 2 ^ 31 * 2
 
--- what follows a wrong start: "Second start bit 0: back to hunting with 0 ones"
-abbrev pub afterWrongStart : Follower
-afterWrongStart = Hunting 0
-
--- "A frame runs 32 bits, then hunting with 0 ones"
+-- "A frame runs 32 bits, then hunting with 0 ones", by document 02, E2, whatever its start: "after a start of 00 the follower passes over the other 30 bits (..) and only then hunts, with 0 ones"
 abbrev pub inside : Bool → ℕ → ℕ → Follower
-inside level seen bits =
-    cond (leb (frameBits - 1) seen) (Hunting 0)
-    (cond (not level && eqb seen 1) afterWrongStart
-    (Inside (seen + 1) (oneMore bits level)))
+inside level seen bits = cond (leb (frameBits - 1) seen) (Hunting 0) (Inside (seen + 1) (oneMore bits level))
 
 -- a follower after a clock at a level, where `enough` ones let a 0 start a frame
 unfoldable pub follow : ℕ → Bool → Follower → Follower
 follow enough level (Hunting ones) = hunt enough level ones
 follow enough level (Inside seen bits) = inside level seen bits
 
+-- "start 0 1": "every frame of ours starts 01"
+abbrev pub ourStart : ℕ
+ourStart = 1
+
 -- the header that 14 bits say: start, op, address, register
 unfoldable pub headerOf : ℕ → Header
-headerOf bits = record { op = bits / 2 ^ 10 % 4; address = bits / 2 ^ 5 % 32; register = bits % 32 }
+headerOf bits = record { start = bits / 2 ^ 12 % 4; op = bits / 2 ^ 10 % 4; address = bits / 2 ^ 5 % 32; register = bits % 32 }
 
 -- the header of a frame with at least 14 bits seen
 abbrev pub headerSeen : ℕ → ℕ → Header

@@ -8,6 +8,7 @@ use Rattle.frame.specs.Frame.{headerBits, frameBits}
 use Rattle.frame.specs.List.{isRead}
 use Rattle.frame.specs.Answers.{sent, answered, silent, answerTo}
 use Rattle.wire.specs.declared.Header.{Header}
+use Rattle.wire.specs.Follower.{ourStart}
 
 -- what the plain machine asks of a party: whether it answers a header and with what word, what the header of a read and the end of a frame do to it, and what the events after a clock do
 pub record Core (P : Type 0) : Type 0 where
@@ -19,7 +20,7 @@ pub record Core (P : Type 0) : Type 0 where
 
 -- the header that a transaction sends
 abbrev pub headerFor : Transaction → Header
-headerFor t = record { op = t .op; address = t .address; register = t .register }
+headerFor t = record { start = ourStart; op = t .op; address = t .address; register = t .register }
 
 -- A transaction with a preamble of m ones: a read acts in clock m + 14 and a write in m + 32, so these are the clocks before it; then all its clocks, with the idle one
 abbrev pub beforeReads : ℕ → ℕ

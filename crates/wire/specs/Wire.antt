@@ -57,3 +57,8 @@ module _ {P : Type 0} (party : Party P) where
   unfoldable pub driven : List Drive → ℕ → List P → List (List Drive)
   driven [] c ps = []
   driven (station ∷ drives) c ps = drivesOf station ps ∷ driven drives (suc c) (eventsAfter (suc c) (clocked station ps))
+
+  -- what one party is after the levels of some clocks, and their events
+  unfoldable pub sampled : List Bool → ℕ → P → P
+  sampled [] c p = p
+  sampled (level ∷ levels) c p = sampled levels (suc c) (party .happens (suc c) (party .samples level p))

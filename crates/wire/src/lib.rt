@@ -2,6 +2,7 @@
 // alone (document 01, "Clock steps" and "The PHY's follower").
 ghost use mathlib.Core.Path.{_≡_};
 ghost use Rattle.wire.specs.Follower.{oneMore, follow, headerOf};
+use frame::Frame;
 
 // What one party does to the wire in a clock.
 pub enum Drive {
@@ -19,17 +20,22 @@ pub enum Follower {
 
 // The first 14 bits of a frame: start, op, address, register.
 pub struct Header {
+    pub start: u8,
     pub op: u8,
     pub address: u8,
     pub register: u8,
 }
 
 impl Header {
+    // Every frame of ours starts 01.
+    pub const OUR_START: u8 = Frame::START_BITS as u8;
+
     // The header that 14 bits say.
     pub fn of(bits: u32) -> Header
         ensures { λ r. ⌜ r ≡ headerOf bits ⌝ }
     {
         Header {
+            start: (bits / 4096 % 4) as u8,
             op: (bits / 1024 % 4) as u8,
             address: (bits / 32 % 32) as u8,
             register: (bits % 32) as u8,
@@ -52,7 +58,8 @@ impl Follower {
         if level { shifted + 1 } else { shifted }
     }
 
-    // What the follower is after a clock at this level, where `enough` ones let a 0 start a frame.
+    // What the follower is after a clock at this level, where `enough` ones let a 0 start a frame. A frame is followed to its
+    // end whatever it says, also where it starts 00 and is not ours.
     pub fn follow(self, enough: u8, level: bool) -> Follower
         ensures { λ r. ⌜ r ≡ follow enough level self ⌝ }
     {
@@ -74,11 +81,7 @@ impl Follower {
                 if seen >= Follower::MOST_SEEN {
                     return Follower::Hunting(0);
                 }
-                if !level & (seen == 1) {
-                    Follower::Hunting(0)
-                } else {
-                    Follower::Inside(seen + 1, Follower::one_more(bits, level))
-                }
+                Follower::Inside(seen + 1, Follower::one_more(bits, level))
             }
         }
     }

@@ -1,15 +1,15 @@
--- The code asks what `stores` asks, in its order.
+-- An own write, as `stores` says.
 use Rattle.phy.specs.Clock.{stores}
 use borrow.Author.Needs.{needs}
 use Rattle.phy.proofs.Phy.stores.Statement.{statement}
 use Rattle.phy.proofs.Phy.stores.Tie as tie
 
-takes-requires : tie.Need-takes-requires
-takes-requires c κs = search needs
+is-own-requires : tie.Need-is-own-requires
+is-own-requires c κs = search needs
 
 returns : tie.Need-returns
 unfolding stores
-returns c = rw (c .takes .ensures)
+returns c = c .is-own .ensures
 
 pub stores-spec : {M : Type 1} → statement M
-stores-spec = tie.close (tie.spec takes-requires returns)
+stores-spec = tie.close (tie.spec is-own-requires returns)

@@ -22,8 +22,8 @@ returns : tie.Need-returns
 unfolding follow
 returns c = rw (c .before .before .self2 .given .1, le-leb 31 _ (c .if4 .taken))
 
-add-t19 : tie.Need-add-t19
-add-t19 c = search needs
+add-t16 : tie.Need-add-t16
+add-t16 c = search needs
 
 one-more-requires : tie.Need-one-more-requires
 one-more-requires c κs = search needs
@@ -52,13 +52,9 @@ returns-5 c = rw (c .before .before .before .self .given .1, c .before .if1 .lef
 
 returns-6 : tie.Need-returns-6
 unfolding follow
-returns-6 c = rw (c .before .before .before .self2 .given .1, lt-leb 31 _ (c .before .if4 .left), c .if5 .taken)
-
-returns-7 : tie.Need-returns-7
-unfolding follow
-returns-7 c =
-    rw (c .before .before .before .before .self2 .given .1, lt-leb 31 _ (c .before .before .if4 .left), c .before .if5 .left)
-    (ap (Inside (c .before .before .before .before .self2 .given .0 .0 + 1)) (c .one-more .ensures))
+returns-6 c =
+    rw (c .before .before .before .self2 .given .1, lt-leb 31 _ (c .before .if4 .left))
+    (ap (Inside (c .before .before .before .self2 .given .0 .0 + 1)) (c .one-more .ensures))
 
 pub follow-spec : {M : Type 1} → statement M
 follow-spec =
@@ -68,11 +64,10 @@ follow-spec =
     add-t12
     enum-known-self-2
     returns
-    add-t19
+    add-t16
     one-more-requires
     returns-2
     returns-3
     returns-4
     returns-5
-    returns-6
-    returns-7)
+    returns-6)

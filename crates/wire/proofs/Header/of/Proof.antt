@@ -11,12 +11,15 @@ cast-t4 c = search needs
 cast-t7 : tie.Need-cast-t7
 cast-t7 c = search needs
 
-cast-t9 : tie.Need-cast-t9
-cast-t9 c = search needs
+cast-t10 : tie.Need-cast-t10
+cast-t10 c = search needs
+
+cast-t12 : tie.Need-cast-t12
+cast-t12 c = search needs
 
 returns : tie.Need-returns
 unfolding headerOf
 returns c = refl
 
 pub of-spec : {M : Type 1} → statement M
-of-spec = tie.close (tie.spec cast-t4 cast-t7 cast-t9 returns)
+of-spec = tie.close (tie.spec cast-t4 cast-t7 cast-t10 cast-t12 returns)

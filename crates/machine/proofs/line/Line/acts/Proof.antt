@@ -4,6 +4,7 @@ use mathlib.Core.Path.{sym, ap, _∙_}
 use native.Mathlib.Nat.{div-one}
 use borrow.Author.Tests.{ne-eqb}
 use Rattle.wire.specs.Follower.{headerOf}
+use Rattle.phy.specs.Clock.{isOwn}
 use Rattle.machine.proofs.Lines.{acts-hunting, acts-inside}
 use borrow.Author.Needs.{needs}
 use Rattle.machine.proofs.line.Line.acts.Statement.{statement}
@@ -21,6 +22,9 @@ returns c = sym (acts-hunting (c .before .before .args .self) _ (c .enum-told .g
 one-more-requires : tie.Need-one-more-requires
 one-more-requires c κs = search needs
 
+wordless-requires : tie.Need-wordless-requires
+wordless-requires c κs = search needs
+
 of-requires : tie.Need-of-requires
 of-requires c κs = search needs
 
@@ -30,20 +34,27 @@ is-own-requires c κs = search needs
 of-requires-2 : tie.Need-of-requires-2
 of-requires-2 c κs = search needs
 
+wordless-requires-2 : tie.Need-wordless-requires-2
+wordless-requires-2 c κs = search needs
+
 is-own-requires-2 : tie.Need-is-own-requires-2
 is-own-requires-2 c κs = search needs
 
 returns-2 : tie.Need-returns-2
 returns-2 c =
-    let now = c .before .before .before .before .before .follower .given in
-    let header = c .before .of .ensures ∙ ap headerOf (c .before .before .before .one-more .ensures) in
-    sym (acts-inside (c .before .before .before .before .before .before .before .args .self) (now .0 .0) (now .0 .1 .0) (now .1) ∙ rw (c .before .before .match2 .keys1, div-one, ← header) (sym (c .is-own .ensures)))
+    let self = c .before .before .before .before .before .before .before .before .args .self in
+    let now = c .before .before .before .before .before .before .follower .given in
+    let header = c .before .of .ensures ∙ ap headerOf (c .before .before .before .before .one-more .ensures) in
+    sym (acts-inside self (now .0 .0) (now .0 .1 .0) (now .1)
+    ∙ rw (c .before .before .before .match2 .keys1, div-one, ← header) (sym (c .is-own .ensures ∙ ap (isOwn 2 (c .before .of .result)) (c .before .before .wordless .ensures))))
 
 returns-3 : tie.Need-returns-3
 returns-3 c =
-    let now = c .before .before .before .before .before .follower .given in
-    let header = c .before .of2 .ensures ∙ ap (λ bits. headerOf (bits / 2 ^ 18)) (c .before .before .before .one-more .ensures) in
-    sym (acts-inside (c .before .before .before .before .before .before .before .args .self) (now .0 .0) (now .0 .1 .0) (now .1) ∙ rw (c .before .before .match2 .keys2, ← header) (sym (c .is-own2 .ensures)))
+    let self = c .before .before .before .before .before .before .before .before .args .self in
+    let now = c .before .before .before .before .before .before .follower .given in
+    let header = c .before .before .of2 .ensures ∙ ap (λ bits. headerOf (bits / 2 ^ 18)) (c .before .before .before .before .one-more .ensures) in
+    sym (acts-inside self (now .0 .0) (now .0 .1 .0) (now .1)
+    ∙ rw (c .before .before .before .match2 .keys2, ← header) (sym (c .is-own2 .ensures ∙ ap (isOwn 1 (c .before .before .of2 .result)) (c .before .wordless2 .ensures))))
 
 returns-4 : tie.Need-returns-4
 returns-4 c =
@@ -58,9 +69,11 @@ acts-spec =
     enum-told
     returns
     one-more-requires
+    wordless-requires
     of-requires
     is-own-requires
     of-requires-2
+    wordless-requires-2
     is-own-requires-2
     returns-2
     returns-3
