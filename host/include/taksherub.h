@@ -111,11 +111,11 @@ uint64_t taksherub_plain(const uint8_t *board, size_t board_len,
 /* Reads answers back out of a capture: the levels of the wire as an analyser
  * saves them, one byte for each clock, 0 or 1. It needs neither board nor list.
  * It follows frames as a PHY does: it starts with 0 ones, hunts with 32, and a
- * frame runs 32 bits. A frame with start 01 and op 01 (write) or 10 (read), to
- * any address, gives a record: of a write with the data seen, of a read by the
- * levels, as decode does. Other frames, and one that is cut off at the end,
- * give nothing. The levels of the run of a translated list give the answers
- * that decode gives.
+ * frame runs 32 bits, also if it starts 00. A frame with start 01 and op 01
+ * (write) or 10 (read), to any address, gives a record: of a write with the
+ * data seen, of a read by the levels, as decode does. Other frames, and one
+ * that is cut off at the end, give nothing. The levels of the run of a
+ * translated list give the answers that decode gives.
  * Result: 6 bytes for each record found, an answer record as above: at most
  * TAKSHERUB_MOST_RECORDS of them, 390 bytes. The call does not say how many.
  * Where you do not know, fill the output with 255 before, which is no status:

@@ -238,7 +238,10 @@ pub fn compare_all(left: &Calls, right: &Calls, count: usize) -> Result<Vec<Tall
 mod tests {
     use super::*;
     use crate::calls::MODEL;
+    use crate::model::follower::{Follower, PREAMBLE};
     use crate::model::listener::heard;
+    use crate::model::phy::Phy;
+    use crate::model::wire::{LEVEL, STATION};
 
     const COUNT: usize = 5_000;
 
@@ -366,6 +369,89 @@ mod tests {
         caught(Calls { listen: |capture, answers| mishears(&[capture, &[1]].concat(), capture, answers), ..MODEL });
         let late = |capture: &[u8], answers: &mut [u8]| mishears(&capture[..capture.len().saturating_sub(1)], capture, answers);
         caught(Calls { listen: late, ..MODEL });
+    }
+
+    /// Hears a level, and says whether a follower that hunts again right after a start of 00, as before E2, is back. It is one of ours
+    /// with 30 clocks of 0 let in there, which end the frame.
+    fn back_at_once(follower: &mut Follower, level: bool) -> bool {
+        follower.hear(level);
+        let back = follower.bits() == 2 && !level;
+        if back {
+            (0..30).for_each(|_| _ = follower.hear(false));
+        }
+        back
+    }
+
+    #[test]
+    fn a_listener_that_hunts_inside_a_foreign_frame_is_caught() {
+        caught(Calls {
+            listen: |capture, answers| {
+                let mut follower = Follower::hunting(PREAMBLE);
+                let mut let_in = |level: &u8| if back_at_once(&mut follower, *level == 1) { 30 } else { 0 };
+                let levels = capture.iter().flat_map(|level| [vec![*level], vec![0; let_in(level)]].concat());
+                mishears(&levels.collect::<Vec<u8>>(), capture, answers)
+            },
+            ..MODEL
+        });
+    }
+
+    #[test]
+    fn a_listener_that_takes_a_start_of_00_for_ours_is_caught() {
+        caught(Calls {
+            listen: |capture, answers| {
+                let mut follower = Follower::hunting(PREAMBLE);
+                let mut second_bit = |level: u8| follower.hear(level == 1).is_none() && follower.bits() == 2;
+                let levels = capture.iter().map(|&level| if second_bit(level) { 1 } else { level });
+                mishears(&levels.collect::<Vec<u8>>(), capture, answers)
+            },
+            ..MODEL
+        });
+    }
+
+    /// A clock of a board that is wrong on purpose, beside a follower of its fastest part: no part is inside a frame where that one is
+    /// not.
+    type WrongClock = fn(board: &mut Board, fastest: &mut Follower, step: u8) -> [u8; LOG_RECORD];
+
+    /// A run that refuses as it should.
+    fn wrong_run(clock: WrongClock, board: &[u8], steps: &[u8], events: &[u8], log: &mut [u8]) -> Answer {
+        (MODEL.run)(board, steps, events, log)?;
+        let mut board = Board::load(board)?;
+        let mut events = Events::check(events, &board, steps.len())?;
+        let mut fastest = Follower::hunting(board.phys.iter().map(Phy::ones_enough).min().unwrap_or(PREAMBLE));
+        for (before, (&step, entry)) in steps.iter().zip(log.as_chunks_mut().0).enumerate() {
+            events.act(before, &mut board);
+            *entry = clock(&mut board, &mut fastest, step);
+        }
+        Ok(())
+    }
+
+    /// Back to hunting after a start of 00, those that hunt anyway having 0 ones after a 0.
+    fn hunts_at_once(board: &mut Board, fastest: &mut Follower, step: u8) -> [u8; LOG_RECORD] {
+        let entry = board.clock(step);
+        if back_at_once(fastest, entry[0] & LEVEL != 0) {
+            (0..30).for_each(|_| _ = board.clock(0));
+        }
+        entry
+    }
+
+    #[test]
+    fn phys_that_hunt_inside_a_foreign_frame_are_caught() {
+        caught(Calls { run: |board, steps, events, log| wrong_run(hunts_at_once, board, steps, events, log), ..MODEL });
+    }
+
+    /// The log shows the start of 00, and the parts hear one of 01.
+    fn takes_any_start(board: &mut Board, fastest: &mut Follower, step: u8) -> [u8; LOG_RECORD] {
+        fastest.hear(step != 0);
+        if fastest.bits() == 2 && step == 0 {
+            board.clock(1);
+            return [STATION, 0, 0, 0, 0];
+        }
+        board.clock(step)
+    }
+
+    #[test]
+    fn phys_that_take_a_start_of_00_for_ours_are_caught() {
+        caught(Calls { run: |board, steps, events, log| wrong_run(takes_any_start, board, steps, events, log), ..MODEL });
     }
 
     #[test]

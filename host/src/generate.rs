@@ -165,26 +165,45 @@ fn steps(random: &mut Random, input: &Input) -> Vec<u8> {
     steps
 }
 
-/// Frames of any start and op after preambles of any length, the station driving on where a PHY answers.
+/// Frames after preambles of any length, some of them foreign and some cut off.
 fn stray_frames(random: &mut Random, board: &[u8], steps: &mut [u8]) {
     let mut left = &mut *steps;
     while !left.is_empty() {
-        let mut frame = Vec::new();
         let any = random.below(40);
         let idle = random.pick(&[1, 1, 2, 3]);
-        frame.resize(random.pick(&[1, 2, 31, 32, 33, any]), idle);
-        let any = random.below(16) as u32;
-        let start_and_op = random.pick(&[0b0110, 0b0110, 0b0110, 0b0101, 0b0100, 0b0111, any]);
-        let header = start_and_op << 10 | u32::from(address(random, board)) << 5 | u32::from(register(random));
-        frame.extend(make::bits(header, 14));
-        let tail = random.pick(&[[2, 3], [0, 1], [1, 3]]);
-        frame.extend((0..18).map(|_| random.pick(&tail)));
+        let mut frame = vec![idle; random.pick(&[1, 2, 31, 32, 33, any])];
+        frame.extend(if random.one_in(3) { foreign_frame(random, board) } else { stray_frame(random, board) });
         frame.truncate(if random.one_in(5) { random.below(frame.len() + 1) } else { frame.len() });
         let taken = frame.len().min(left.len());
         let (head, rest) = left.split_at_mut(taken);
         head.copy_from_slice(&frame[..taken]);
         left = rest;
     }
+}
+
+/// A frame of any start and op, the station driving on where a PHY answers.
+fn stray_frame(random: &mut Random, board: &[u8]) -> Vec<u8> {
+    let any = random.below(16) as u32;
+    let start_and_op = random.pick(&[0b0110, 0b0110, 0b0110, 0b0101, 0b0100, 0b0111, any]);
+    let header = make::bits(header(random, board, start_and_op), 14);
+    let tail = random.pick(&[[2, 3], [0, 1], [1, 3]]);
+    header.chain((0..18).map(|_| random.pick(&tail))).collect()
+}
+
+/// A frame that starts 00. Behind that it has the op, PHY and register of a write or a read of ours, or somewhere a 1 and the header of
+/// one, which a part would take if it hunted there.
+fn foreign_frame(random: &mut Random, board: &[u8]) -> Vec<u8> {
+    let (any, op) = (random.number() as u32, random.pick(&[0b01, 0b10]));
+    let (shown, bits_behind) = match random.below(4) {
+        0 => (header(random, board, op), 18),
+        _ => (1 << 14 | header(random, board, 0b0100 | op), random.below(16)),
+    };
+    make::bits(shown << bits_behind | any & ((1 << bits_behind) - 1), 32).collect()
+}
+
+/// A frame's first 14 bits, for a PHY that is mostly the board's.
+fn header(random: &mut Random, board: &[u8], start_and_op: u32) -> u32 {
+    start_and_op << 10 | u32::from(address(random, board)) << 5 | u32::from(register(random))
 }
 
 /// A log of the list's length: of a run, the same with levels changed, or any bytes.

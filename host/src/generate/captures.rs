@@ -27,24 +27,27 @@ pub fn capture(random: &mut Random, input: &Input) -> Vec<u8> {
 }
 
 /// Frames after preambles, back to back or with idle clocks between: all of them writes and reads, or some that are followed and give
-/// nothing, and some after too few ones.
+/// nothing, and some after too few ones, or just enough with those that the frame before ends with.
 fn frames(random: &mut Random) -> Vec<u8> {
     let count = if random.one_in(5) { MOST_HEARD } else { size(random, MOST_HEARD) };
     let (good, idle) = (random.one_in(2), random.pick(&[0, 0, 0, 1, 2, 40]));
-    let mut capture = Vec::new();
+    let (mut capture, mut before) = (Vec::new(), 0u32);
     for _ in 0..count {
-        let ones = if good { 32 } else { random.pick(&[31, 32, 32, 33, 64]) };
-        capture.extend(make::levels(ones, frame(random, good)));
+        let missing = 32 - before.trailing_ones() as usize;
+        let ones = if good { 32 } else { random.pick(&[31, 32, 32, 33, 64, missing]) };
+        before = frame(random, good);
+        capture.extend(make::levels(ones, before));
         capture.resize(capture.len() + idle, 1);
     }
     capture.truncate(MOST_STEPS);
     capture
 }
 
-/// The 32 bits of a write or a read, or with any start and op; any turnaround and data.
+/// The 32 bits of a write or a read, or with any start and op, or a start of 00; any turnaround and data.
 fn frame(random: &mut Random, good: bool) -> u32 {
     let any = random.number() as u32;
-    let start_and_op = random.pick(&[0b0101, 0b0110, if good { 0b0110 } else { any >> 28 }]);
+    let ours = random.pick(&[0b0101, 0b0110]);
+    let start_and_op = if good { ours } else { random.pick(&[ours, ours, any >> 28, any >> 30]) };
     start_and_op << 28 | random.pick(&[any, any | 0xFFFF, any & !0xFFFF]) & 0x0FFF_FFFF
 }
 

@@ -35,7 +35,8 @@ impl Follower {
         self.bits
     }
 
-    /// One level. "A frame runs 32 bits, then hunting with 0 ones", whatever it says and whoever it is for.
+    /// One level. "A frame runs 32 bits, then hunting with 0 ones", whatever it says and whoever it is for: by document 02, E2, also if
+    /// it starts 00.
     pub fn hear(&mut self, level: bool) -> Option<Whole> {
         if self.bits == 0 {
             self.hunt(level);
@@ -45,7 +46,6 @@ impl Follower {
         self.frame = self.frame << 1 | u32::from(level);
         let frame = self.frame;
         match self.bits {
-            2 if !level => *self = Follower::hunting(self.enough),
             14 => return Some(Whole::Header(frame << 18)),
             32 => {
                 *self = Follower::hunting(self.enough);

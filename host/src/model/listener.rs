@@ -90,10 +90,17 @@ mod tests {
     }
 
     #[test]
-    fn a_start_of_00_goes_back_to_hunting_with_0_ones() {
-        reads(&[ONES, "00", READ], &[]);
-        reads(&[ONES, "00", &ONES[1..], READ], &[]);
-        reads(&[ONES, "00", ONES, READ], &[ANSWERED]);
+    fn a_frame_that_starts_00_gives_nothing_and_is_followed_to_its_end() {
+        for foreign in [
+            "00 01 01010 00011 10 0000101010111100",
+            "00 10 00001 00001 10 0111100001001001",
+            "00 11 11111 11111 11 1111111111111111",
+        ] {
+            reads(&[ONES, foreign], &[]);
+            reads(&[ONES, foreign, &ONES[1..], READ], &[]);
+            reads(&[ONES, foreign, ONES, READ], &[ANSWERED]);
+        }
+        reads(&[ONES, "00", ONES, READ], &[]);
     }
 
     #[test]

@@ -1,10 +1,13 @@
 //! Document 01's bench cases, limits and worked example, with the document's values.
 
+mod foreign_frames;
+
 use super::*;
 use crate::make::{board_p, event, phy, read, write};
 
 const LINK_UP: u8 = 1;
 const LINK_DOWN: u8 = 2;
+const REMOTE_FAULT: u8 = 3;
 
 /// Status and data of each transaction, found by both machines: the wire from a fresh load, and the plain one.
 fn exchange(board_file: &[u8], list: &[[u8; 6]], events: &[[u8; 4]]) -> Vec<(u8, u16)> {

@@ -107,7 +107,7 @@ pub fn run(board: &mut Board, steps: &[u8], event_file: &[u8], log: &mut [u8]) -
 
 impl Board {
     /// One clock: all drive by their state before it, then all sample the level. Gives the log record.
-    fn clock(&mut self, step: u8) -> [u8; LOG_RECORD] {
+    pub fn clock(&mut self, step: u8) -> [u8; LOG_RECORD] {
         let station = step < RELEASE;
         let mut low = step == 0;
         let mut drivers = 0u32;
