@@ -5,7 +5,7 @@ use std::path::{Path, PathBuf};
 use taksherub_host::calls::{Call, Input, MODEL};
 use taksherub_host::draw::draw;
 use taksherub_host::generate;
-use taksherub_host::make::{board_p, capture, log, read, steps, write};
+use taksherub_host::make::{board_p, capture, levels, log, read, steps, write};
 use taksherub_host::model::follower::{Follower, Whole, PREAMBLE};
 use taksherub_host::model::listener::heard;
 use taksherub_host::model::wire::{CONTENTION, STATION};
@@ -150,10 +150,12 @@ fn the_example_capture_is_that_of_the_tray() {
 
 /// The drawings of docs/BENCH.md are the wire's.
 #[test]
+#[expect(clippy::unusual_byte_groupings, reason = "the groups are the frame's fields")]
 fn the_bench_page_draws_the_wire() {
     let page = fs::read_to_string(Path::new(env!("CARGO_MANIFEST_DIR")).join("../docs/BENCH.md")).unwrap();
     let list = [write(3, 0, 0x1200), read(1, 1), read(2, 0)].concat();
-    let steps = steps(&list);
+    let foreign = levels(32, 0b00_01_01010_00011_10_0000101010111100);
+    let steps = [steps(&list), foreign, vec![2]].concat();
     let log = log(&board_p(), &steps, &[]);
     for (steps, log) in steps.chunks(65).zip(log.chunks(325)) {
         let drawing = draw(steps, log);
