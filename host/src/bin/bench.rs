@@ -2,6 +2,7 @@
 //! capture read back.
 
 use std::hint::black_box;
+use std::process::ExitCode;
 use std::time::Instant;
 use taksherub_host::calls::{Calls, MODEL};
 use taksherub_host::door::DOOR;
@@ -15,13 +16,18 @@ const CAPTURES_A_ROUND: usize = 50;
 /// Transactions a second that the door's listener has to reach.
 const GOAL: f64 = 2e6;
 
-fn main() {
+fn main() -> ExitCode {
+    if !cfg!(target_arch = "x86_64") {
+        eprintln!("bench: the proved code is for x86-64, and its time under an emulator says nothing");
+        return ExitCode::FAILURE;
+    }
     let capture = make::capture(&run());
     println!("listening, best of {ROUNDS} rounds of {CAPTURES_A_ROUND} captures of {MOST_TRANSACTIONS} transactions:");
     // One record more than a list has is room for every capture, and the door need not count the records first.
     for room in [MOST_TRANSACTIONS, MOST_TRANSACTIONS + 1] {
         listen(&capture, room);
     }
+    ExitCode::SUCCESS
 }
 
 /// Times the run, and gives its log.
