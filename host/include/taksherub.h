@@ -1,6 +1,7 @@
 /* The bench through C: the proved code of crates/door.
  *
- * Link target/staticlib/libdoor.a (x86-64, written by `rt staticlib door`).
+ * Link target/staticlib/libdoor.a, written by `rt staticlib door`, into a
+ * program for x86-64 (host/README.md says how, and how on Arm).
  *
  * Every call answers 0 when done, else number * 65536 + index: the number of
  * the refusal and the index, from 0, of the record at fault. TAKSHERUB_NUMBER
