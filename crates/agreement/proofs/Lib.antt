@@ -16,5 +16,6 @@ pub mod Phys
 pub mod Cases
 pub mod Boards
 pub mod Demand3
+pub mod Foreign
 pub mod ExchangeCalls
 pub mod ExchangeLaws

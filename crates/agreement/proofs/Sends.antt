@@ -126,5 +126,5 @@ module _ {P : Type 0} {wire : Party P} {core : Core P} {line : Line P} {Good : P
         ((replicate m true ++ (false ∷ true ∷ [])) ++ (hears false 0 2 header ++ (answered ++ (true ∷ []))))
         (suc (suc endClock)) (map (rest line) (quiet core endClock 2 (framed core m t c ps (shown bits answered % 2 ^ 16))))
     sends =
-        goes-append wire (starts laws m c (c + m) ps refl ready)
+        goes-append wire (starts laws true m c (c + m) ps refl ready)
         (goes-append wire header-run (goes-append wire frame-run idle-run))

@@ -1,7 +1,7 @@
 -- Preamble and start: each 1 brings every party nearer to enough ones, so that the 0 starts a frame for all of them.
 use Prim.Native.Nat.{ℕ, zero, suc, _+_, _≤_, min}
 use mathlib.Core.Path.{_≡_, refl, ap, ap₂, sym, _∙_}
-use mathlib.Core.Bool.{Bool, true, false}
+use mathlib.Core.Bool.{Bool, true, false, and-true}
 use mathlib.Core.List.{List, [], _∷_, _++_, map}
 use native.Mathlib.Omega.{arith}
 use lib.ListN.{replicate}
@@ -13,7 +13,7 @@ use Rattle.wire.specs.declared.Drive.the-variants.{Released, Driven}
 use Rattle.wire.specs.declared.Follower.{Follower}
 use Rattle.wire.specs.declared.Follower.the-variants.{Hunting, Inside}
 use Rattle.wire.specs.Wire.{Party, levelOf, drivers, drivesOf}
-use Rattle.wire.specs.Follower.{follow}
+use Rattle.wire.specs.Follower.{oneMore, follow}
 use Rattle.wire.specs.Machines.{Core, quiet}
 use Rattle.wire.proofs.Runs.{Goes, goes-nil, goes-cons, goes-append, goes-to}
 use Rattle.wire.proofs.Quiet.{quiet-map}
@@ -113,12 +113,12 @@ module _ {P : Type 0} {wire : Party P} {core : Core P} {line : Line P} {Good : P
       let full : line .enough p ≤ r .waits .ones = omega (arith, r .enough) in
       ready-samples 0 p r false ∙ rw (r .waits .hunts, le-leb (line .enough p) (r .waits .ones) full)
 
-  -- the preamble's ones, then the start
-  pub starts : (m c c′ : ℕ) (ps : List P) → c′ ≡ c + m → All (Ready line Good m) ps →
-      Goes wire (replicate m (Driven true) ++ (Driven false ∷ Driven true ∷ [])) c ps (replicate m true ++ (false ∷ true ∷ [])) (suc (suc c′))
-      (map (line .put (Inside 2 1) 0) (quiet core c (suc (suc m)) ps))
+  -- the preamble's ones, then the start: a 0 and a second bit
+  pub starts : (second : Bool) (m c c′ : ℕ) (ps : List P) → c′ ≡ c + m → All (Ready line Good m) ps →
+      Goes wire (replicate m (Driven true) ++ (Driven false ∷ Driven second ∷ [])) c ps (replicate m true ++ (false ∷ second ∷ [])) (suc (suc c′))
+      (map (line .put (Inside 2 (oneMore 0 second)) 0) (quiet core c (suc (suc m)) ps))
   unfolding quiet follow
-  starts zero c c′ ps clocks ready =
+  starts second zero c c′ ps clocks ready =
       let now : c′ ≡ c = omega arith in
       rw now
       (goes-append wire
@@ -128,18 +128,19 @@ module _ {P : Type 0} {wire : Party P} {core : Core P} {line : Line P} {Good : P
       refl
       (all-then (Ready line Good 0) (λ p. wire .samples false p ≡ line .put (Inside 1 0) 0 p) ps ready-starts ready))
       (map-past (line .put (Inside 1 0) 0) (core .happens (suc c)) (laws .keeps-events (suc c) .put (Inside 1 0) 0) ps))
-      (put-clock (Driven true) true (Inside 1 0) (Inside 2 1) 0 0 (suc c) (map (core .happens (suc c)) ps)
+      (put-clock (Driven second) second (Inside 1 0) (Inside 2 (oneMore 0 second)) 0 0 (suc c) (map (core .happens (suc c)) ps)
       (λ p. early laws 1 0 0 p (omega arith))
-      refl
-      (λ p. laws .sampling .inside true 1 0 0 p (omega arith) (omega arith))))
-  starts (suc m) c c′ ps clocks ready =
+      (and-true second)
+      (λ p. laws .sampling .inside second 1 0 0 p (omega arith) (omega arith))))
+  starts second (suc m) c c′ ps clocks ready =
+      let start : Follower = Inside 2 (oneMore 0 second) in
       goes-append wire
       (silent-clock (Driven true) true nearer c ps
       (all-then (Ready line Good (suc m)) (λ p. wire .drives p ≡ Released) ps (ready-silent (suc m)) ready)
       refl
       (all-then (Ready line Good (suc m)) (λ p. wire .samples true p ≡ nearer p) ps (λ p r. ready-samples (suc m) p r true) ready))
-      (goes-to wire (starts m (suc c) c′ _ (omega arith) nearer-ready)
-      (quiet-alike (Inside 2 1) 0 c (suc (suc (suc m))) (map nearer ps) ps (map-then (line .put (Inside 2 1) 0) nearer (line .put (Inside 2 1) 0) (λ p. laws .fields .again (Inside 2 1) _ 0 0 p) ps)))
+      (goes-to wire (starts second m (suc c) c′ _ (omega arith) nearer-ready)
+      (quiet-alike start 0 c (suc (suc (suc m))) (map nearer ps) ps (map-then (line .put start 0) nearer (line .put start 0) (λ p. laws .fields .again start _ 0 0 p) ps)))
     where
       nearer-ready : All (Ready line Good m) (map (core .happens (suc c)) (map nearer ps))
       nearer-ready =

@@ -37,13 +37,16 @@ pub record Foreign (seen bits : ℕ) : Type 0 where
   pub upto : seen ≤ 31
   pub zeros : bits < 2 ^ (seen - 2)
 
+pub start-00 : Foreign 2 0
+start-00 = record { from = omega arith; upto = omega arith; zeros = omega arith }
+
 -- with one bit more the first two are still 0
 more-zeros : (level : Bool) (seen bits : ℕ) → Foreign seen bits → oneMore bits level < 2 ^ (suc seen - 2)
 more-zeros level seen bits f =
     let place : suc (seen - 2) ≡ suc seen - 2 = omega (arith, f .from) in
     subst (λ (k : ℕ). oneMore bits level < 2 ^ k) place (more-fits (seen - 2) bits (f .zeros) (omega (arith, f .upto)) level)
 
-foreign-on : (level : Bool) (seen bits : ℕ) → Foreign seen bits → seen < 31 → Foreign (suc seen) (oneMore bits level)
+pub foreign-on : (level : Bool) (seen bits : ℕ) → Foreign seen bits → seen < 31 → Foreign (suc seen) (oneMore bits level)
 foreign-on level seen bits f before = record { from = omega (arith, f .from); upto = omega arith; zeros = more-zeros level seen bits f }
 
 foreign-later : (levels : List Bool) (seen bits : ℕ) → Foreign seen bits → seen + length levels ≤ 31 → Foreign (seen + length levels) (shown bits levels)
@@ -150,9 +153,6 @@ module _ (happens : ℕ → Phy → Phy) (events : (c : ℕ) → Effect (happens
   unfolding follow
   second-zero levels c phys =
       one-level (Inside 1 0) (Inside 2 0) false levels c phys (λ p. clock-inside false 1 0 0 p (λ n13. omega arith) (λ n31. omega arith))
-
-  start-00 : Foreign 2 0
-  start-00 = record { from = omega arith; upto = omega arith; zeros = omega arith }
 
   -- PHYs that have heard the first 0 of a frame, and then 0 and any 30 levels, are what the events alone make of them, and hunt with 0 ones
   pub foreign-frame : (levels : List Bool) (c : ℕ) (phys : List Phy) → length levels ≡ 30 →
