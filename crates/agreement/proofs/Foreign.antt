@@ -1,36 +1,37 @@
 -- A frame that starts 00, on PHYs that hunt and then on a board: the preamble's ones are enough for all, and from the second 0 on a phase in which nobody answers goes to the frame's end.
-use Prim.Native.Nat.{ℕ, suc, _+_}
-use mathlib.Core.Path.{_≡_, refl, ap, ap₂, sym, _∙_}
-use mathlib.Core.Bool.{true, false}
+use Prim.Native.Nat.{ℕ, zero, suc, _+_, _≤_}
+use mathlib.Core.Path.{_≡_, refl, ap, sym, subst, _∙_}
+use mathlib.Core.Bool.{Bool, true, false}
 use mathlib.Core.List.{List, [], _∷_, _++_, map}
 use native.Mathlib.Omega.{arith}
 use lib.ListN.{length, replicate, length-map}
 use Rattle.verdict.specs.Lists.{All}
-use Rattle.verdict.proofs.Elements.{all-then, all-map, map-past, count-none}
+use Rattle.verdict.proofs.Elements.{all-map, all-map-of, all-append, map-past, count-none}
 use Rattle.frame.specs.Frame.{preamble}
 use Rattle.wire.specs.declared.Drive.{Drive}
 use Rattle.wire.specs.declared.Drive.the-variants.{Released, Driven}
 use Rattle.wire.specs.declared.Follower.the-variants.{Hunting, Inside}
-use Rattle.wire.specs.Wire.{stationDrive}
+use Rattle.wire.specs.Wire.{levelOf, drivers, stationDrive, driven}
+use Rattle.wire.specs.Follower.{oneMore}
 use Rattle.wire.specs.Machines.{quiet}
-use Rattle.wire.proofs.Runs.{Goes, goes-append, goes-as}
+use Rattle.wire.proofs.Runs.{driven-append, Goes, goes-append, goes-as}
 use Rattle.wire.proofs.Quiet.{quiet-append}
 use Rattle.phy.specs.declared.Phy.{Phy}
 use Rattle.phy.specs.Fields.{withLine}
-use Rattle.phy.specs.Clock.{phyParty, phyCore}
+use Rattle.phy.specs.Clock.{drives, clock, phyParty, phyCore}
 use Rattle.phy.specs.Typed.{Steady}
 use Rattle.phy.proofs.Effects.{Effect}
-use Rattle.phy.proofs.Foreign.{Foreign, foreign-on, start-00, foreign-released, foreign-clock, foreign-last}
+use Rattle.phy.proofs.Foreign.{Foreign, foreign-on, start-00, foreign-released, foreign-clock, foreign-last, one-clock}
 use Rattle.board.specs.declared.Board.{Board}
 use Rattle.machine.specs.Outcome.{physOf}
 use Rattle.machine.specs.Events.{happens}
 use Rattle.machine.specs.Run.{partyWith, stationDrives, atStart}
 use Rattle.machine.proofs.HappensEffect.{happens-effect}
-use Rattle.agreement.specs.Follows.{Follows, Waits, Ready}
+use Rattle.agreement.specs.Follows.{Follows, Ready}
 use Rattle.agreement.specs.Phys.{phyLine}
-use Rattle.agreement.specs.Foreign.{ForeignAsked, levelAlone, PassedOver}
+use Rattle.agreement.specs.Foreign.{ForeignAsked, StationAlone, levelAlone, PassedOver}
 use Rattle.agreement.proofs.Phase.{hears, through}
-use Rattle.agreement.proofs.Start.{starts, waits-kept}
+use Rattle.agreement.proofs.Start.{starts, events-wait, whole-preamble}
 use Rattle.agreement.proofs.Seen.{nobody-fits}
 use Rattle.agreement.proofs.Phys.{phy-follows}
 use Rattle.agreement.proofs.Boards.{waiting}
@@ -78,34 +79,75 @@ module _ (happenings : ℕ → Phy → Phy) (events : (c : ℕ) → Effect (happ
       refl refl refl
       (ap (map (withLine (Hunting 0) 0)) (sym (quiet-append (phyCore happenings) (suc (suc m)) 30 c (suc (suc (c + m))) ps (omega arith)) ∙ ap (λ n. quiet (phyCore happenings) c n ps) all))
 
+  -- where the station drives, and nobody against it, no PHY does
+  beside : (level : Bool) (ds : List Drive) → drivers (Driven level ∷ ds) ≤ 1 → All (λ d. d ≡ Released) ds
+  beside level [] few = tt
+  beside level (Released ∷ ds) few = (refl, beside level ds few)
+  beside level (Driven other ∷ ds) few = absurd (omega arith)
+
+  driving-alone : (levels : List Bool) (c : ℕ) (ps : List Phy) →
+      All (λ ds. drivers ds ≤ 1) (driven (phyParty happenings) (map Driven levels) c ps) → All StationAlone (driven (phyParty happenings) (map Driven levels) c ps)
+  unfolding driven
+  driving-alone [] c ps few = tt
+  driving-alone (level ∷ levels) c ps few = (beside level (map drives ps) (few .0), driving-alone levels (suc c) _ (few .1))
+
+  -- and in the frame none does, whatever the station does
+  released : (seen bits : ℕ) (ps : List Phy) → Foreign seen bits → All (λ e. e ≡ Released) (map drives (map (withLine (Inside seen bits) 0) ps))
+  released seen bits ps f =
+      all-map (λ p. drives p ≡ Released) (λ e. e ≡ Released) drives (map (withLine (Inside seen bits) 0) ps) (λ p e. e)
+      (all-map-of (λ p. drives p ≡ Released) (withLine (Inside seen bits) 0) ps (λ p. foreign-released _ seen bits refl f))
+
+  passes-alone : (ds : List Drive) (seen bits c : ℕ) (ps : List Phy) → Foreign seen bits → seen + length ds ≤ 32 →
+      All StationAlone (driven (phyParty happenings) ds c (map (withLine (Inside seen bits) 0) ps))
+  unfolding driven
+  passes-alone [] seen bits c ps f most = tt
+  passes-alone (d ∷ []) seen bits c ps f most = (released seen bits ps f, tt)
+  passes-alone (d ∷ e ∷ ds) seen bits c ps f most =
+      let level = levelOf (d ∷ map drives (map (withLine (Inside seen bits) 0) ps)) in (
+        released seen bits ps f,
+        subst (λ qs. All StationAlone (driven (phyParty happenings) (e ∷ ds) (suc c) qs)) (sym (one-clock happenings events (Inside seen bits) (Inside (suc seen) (oneMore bits level)) level (suc c) ps (λ p. foreign-clock level seen bits 0 p f (omega arith))))
+            (passes-alone (e ∷ ds) (suc seen) (oneMore bits level) (suc c) (map (happenings (suc c)) ps) (foreign-on level seen bits f (omega arith)) (omega arith)),
+      )
+
+  -- so in no clock of the preamble and the frame does a PHY drive
+  pub foreign-alone : (m c : ℕ) (ds : List Drive) (ps : List Phy) → length ds ≡ 30 → All (Ready phyLine Steady m) ps →
+      All StationAlone (driven (phyParty happenings) ((replicate m (Driven true) ++ (Driven false ∷ Driven false ∷ [])) ++ ds) c ps)
+  foreign-alone m c ds ps long ready =
+      let start = replicate m (Driven true) ++ (Driven false ∷ Driven false ∷ []) in
+      let started = starts laws false m c (c + m) ps refl ready in
+      subst (All StationAlone) (sym (driven-append (phyParty happenings) start ds c (suc (suc (c + m))) ps (started .ends)))
+      (all-append StationAlone (driven (phyParty happenings) start c ps) _
+      (subst (λ ds. All (λ es. drivers es ≤ 1) (driven (phyParty happenings) ds c ps) → All StationAlone (driven (phyParty happenings) ds c ps)) (sym (driving m)) (driving-alone (replicate m true ++ (false ∷ false ∷ [])) c ps) (started .alone))
+      (subst (λ qs. All StationAlone (driven (phyParty happenings) ds (suc (suc (c + m))) qs)) (sym (started .after))
+      (passes-alone ds 2 0 (suc (suc (c + m))) (quiet (phyCore happenings) c (suc (suc m)) ps) start-00 (omega arith))))
+    where
+      driving : (m : ℕ) → replicate m (Driven true) ++ (Driven false ∷ Driven false ∷ []) ≡ map Driven (replicate m true ++ (false ∷ false ∷ []))
+      driving zero = refl
+      driving (suc m) = ap (λ ds. Driven true ∷ ds) (driving m)
+
 -- while nobody answers the wire is the station's
 hears-alone : (n : ℕ) (ds : List Drive) → hears false 0 n ds ≡ map levelAlone ds
 hears-alone n [] = refl
 hears-alone n (Released ∷ ds) = ap (λ ls. true ∷ ls) (hears-alone (suc n) ds)
-hears-alone n (Driven level ∷ ds) = ap₂ (λ l ls. l ∷ ls) refl (hears-alone (suc n) ds)
+hears-alone n (Driven level ∷ ds) = ap (λ ls. levelAlone (Driven level) ∷ ls) (hears-alone (suc n) ds)
 
 -- and on a board
 pub foreign-passed-over : (board : Board) (others events : List ℕ) → ForeignAsked board others → PassedOver board others events
-foreign-passed-over board others events heard =
+foreign-passed-over board others events asked =
     let sent = foreign-sent (happens events) (happens-effect events) preamble 0 64 (stationDrives others) (atStart board events) thirty refl ready in
     record {
       phys = sent .after;
+      silent = foreign-alone (happens events) (happens-effect events) preamble 0 (stationDrives others) (atStart board events) thirty ready;
       levels = sent .levels-are ∙ ap (λ ls. (replicate preamble true ++ (false ∷ false ∷ [])) ++ ls) (hears-alone 2 (stationDrives others));
-      alone = sent .alone;
     }
   where
     follows : Follows (partyWith events) (phyCore (happens events)) phyLine Steady
     follows = phy-follows (happens events) (happens-effect events)
 
     thirty : length (stationDrives others) ≡ 30
-    thirty = length-map others stationDrive ∙ heard .long
-
-    waits : All (Waits phyLine Steady) (atStart board events)
-    waits =
-        all-map (Waits phyLine Steady) (Waits phyLine Steady) (happens events 0) (physOf board) (waits-kept follows (happens events 0) (follows .keeps-events 0))
-        (waiting board (heard .phys) (heard .sound) (heard .typed) (heard .hunt))
+    thirty = length-map others stationDrive ∙ asked .long
 
     ready : All (Ready phyLine Steady preamble) (atStart board events)
     ready =
-        all-then (Waits phyLine Steady) (Ready phyLine Steady preamble) (atStart board events)
-        (λ p w. record { waits = w; enough = omega (arith, follows .few-enough p (w .good)) }) waits
+        whole-preamble follows (atStart board events)
+        (events-wait follows 0 (physOf board) (waiting board (asked .phys) (asked .sound) (asked .typed) (asked .hunt)))

@@ -8,6 +8,7 @@ use lib.ListN.{replicate}
 use borrow.Author.Tests.{le-leb}
 use Rattle.verdict.specs.Lists.{All}
 use Rattle.verdict.proofs.Elements.{all-then, all-map, all-map-of, map-same, map-then, map-past, count-none}
+use Rattle.frame.specs.Frame.{preamble}
 use Rattle.wire.specs.declared.Drive.{Drive}
 use Rattle.wire.specs.declared.Drive.the-variants.{Released, Driven}
 use Rattle.wire.specs.declared.Follower.{Follower}
@@ -71,6 +72,14 @@ module _ {P : Type 0} {wire : Party P} {core : Core P} {line : Line P} {Good : P
 
     pub waits-kept : Waits line Good p → Waits line Good (effect p)
     waits-kept w = record { good = keeps .good p (w .good); ones = w .ones; hunts = follower-kept ∙ w .hunts; empty = captured-kept ∙ w .empty }
+
+  -- so all of them wait after events, and a whole preamble is enough for all
+  pub events-wait : (c : ℕ) (ps : List P) → All (Waits line Good) ps → All (Waits line Good) (map (core .happens c) ps)
+  events-wait c ps = all-map (Waits line Good) (Waits line Good) (core .happens c) ps (waits-kept (core .happens c) (laws .keeps-events c))
+
+  pub whole-preamble : (ps : List P) → All (Waits line Good) ps → All (Ready line Good preamble) ps
+  whole-preamble ps =
+      all-then (Waits line Good) (Ready line Good preamble) ps (λ p w. record { waits = w; enough = omega (arith, laws .few-enough p (w .good)) })
 
   ready-kept : (effect : P → P) → Keeps wire core line Good effect → (m : ℕ) (p : P) → Ready line Good m p → Ready line Good m (effect p)
   unfolding waits-kept

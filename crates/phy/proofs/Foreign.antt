@@ -12,7 +12,7 @@ use lib.ListN.{length}
 use lib.Pow.{shr-shr}
 use borrow.Author.Tests.{leb-true, leb-false}
 use Rattle.verdict.specs.Lists.{All}
-use Rattle.verdict.proofs.Elements.{all-map-of, map-then}
+use Rattle.verdict.proofs.Elements.{all-map-of, map-then, map-past}
 use Rattle.wire.specs.declared.Drive.{Drive}
 use Rattle.wire.specs.declared.Drive.the-variants.{Released}
 use Rattle.wire.specs.declared.Follower.{Follower}
@@ -111,16 +111,21 @@ module _ (happens : ℕ → Phy → Phy) (events : (c : ℕ) → Effect (happens
   abbrev pub hearing : List Bool → ℕ → List Phy → List Phy
   hearing levels c phys = map (sampled (phyParty happens) levels c) phys
 
-  -- one level that moves the follower alone
+  -- a clock that moves the follower alone, and its events
+  pub one-clock : (f g : Follower) (level : Bool) (c : ℕ) (phys : List Phy) → ((p : Phy) → clock level (withLine f 0 p) ≡ withLine g 0 p) →
+      map (happens c) (map (clock level) (following f phys)) ≡ following g (map (happens c) phys)
+  one-clock f g level c phys moves =
+      ap (map (happens c)) (map-then (clock level) (withLine f 0) (withLine g 0) moves phys)
+      ∙ map-past (withLine g 0) (happens c) (events c .blind g 0) phys
+
   one-level : (f g : Follower) (level : Bool) (levels : List Bool) (c : ℕ) (phys : List Phy) → ((p : Phy) → clock level (withLine f 0 p) ≡ withLine g 0 p) →
       hearing (level ∷ levels) c (following f phys) ≡ hearing levels (suc c) (following g (map (happens (suc c)) phys))
   unfolding sampled
   one-level f g level levels c phys moves =
       let rest : Phy → Phy = sampled (phyParty happens) levels (suc c) in
-      map-then (λ p. rest (happens (suc c) (clock level p))) (withLine f 0) (λ p. rest (withLine g 0 (happens (suc c) p)))
-      (λ p. ap (λ q. rest (happens (suc c) q)) (moves p) ∙ ap rest (events (suc c) .blind g 0 p)) phys
-      ∙ sym (map-then rest (λ p. withLine g 0 (happens (suc c) p)) _ (λ p. refl) phys)
-      ∙ ap (map rest) (sym (map-then (withLine g 0) (happens (suc c)) _ (λ p. refl) phys))
+      sym (map-then (λ p. rest (happens (suc c) p)) (clock level) _ (λ p. refl) (following f phys))
+      ∙ sym (map-then rest (happens (suc c)) _ (λ p. refl) (map (clock level) (following f phys)))
+      ∙ ap (map rest) (one-clock f g level (suc c) phys moves)
 
   -- up to its last bit a foreign frame is followed, and nothing but the events acts
   inside-foreign : (levels : List Bool) (seen bits c : ℕ) (phys : List Phy) → Foreign seen bits → seen + length levels ≤ 31 →
