@@ -8,7 +8,9 @@ use Rattle.verdict.specs.Output.{Writes}
 use Rattle.board.specs.declared.Board.{Board}
 use Rattle.board.specs.declared.Loaded.{Loaded}
 use Rattle.board.specs.Load.{loaded}
-use Rattle.door.specs.Door.{codeOf, Opens, withBoard}
+use Rattle.waveform.specs.Waveform.{ReadBack}
+use Rattle.waveform.proofs.ReadBack.{reading-both}
+use Rattle.door.specs.Door.{codeOf, Opens, withBoard, OpensReadVcd}
 
 -- two results that meet the promise are equal
 pub opens-unique : {answer : Verdict} {result out out₁ out₂ : List ℕ} {r s : ℕ} → Opens answer result out r out₁ → Opens answer result out s out₂ → (r ≡ s) × (out₁ ≡ out₂)
@@ -16,6 +18,13 @@ opens-unique p q = (p .code ∙ sym (q .code), p .output ∙ sym (q .output))
 
 pub opens : {answer v : Verdict} {result out out′ : List ℕ} {r : ℕ} → Writes answer result out v out′ → r ≡ codeOf v → Opens answer result out r out′
 opens w e = record { code = e ∙ ap codeOf (w .verdict); output = w .output }
+
+-- the same of a text that is read
+pub opens-reading : {v : Verdict} {text out out′ : List ℕ} {r : ℕ} → ReadBack text out v out′ → r ≡ codeOf v → OpensReadVcd text out r out′
+opens-reading read e = record { ours = λ log writes. opens (read .ours log writes) e; foreign = λ strange. opens (read .foreign strange) e }
+
+pub reading-unique : {text out out₁ out₂ : List ℕ} {r s : ℕ} → OpensReadVcd text out r out₁ → OpensReadVcd text out s out₂ → (r ≡ s) × (out₁ ≡ out₂)
+reading-unique p q = reading-both (λ answer result. opens-unique) p q
 
 module _ (file : List ℕ) (l : Loaded) (same : l ≡ loaded file) (call : Board → Verdict) (result : Board → List ℕ) {out : List ℕ} where
   -- a refused board file: nothing else is asked

@@ -13,6 +13,7 @@ use Rattle.board.specs.Load.{loaded}
 use Rattle.machine.specs.Run.{running, logOfRun}
 use Rattle.machine.specs.Plain.{planning, answersOfPlain}
 use Rattle.listener.specs.Listening.{listening, recordBytes}
+use Rattle.waveform.specs.Waveform.{waveform, writing, Reading}
 use mathlib.Core.List.{map}
 
 -- an answer as a number; an index is far below 65536
@@ -45,3 +46,9 @@ OpensPlain file list events out r out′ =
 
 abbrev pub OpensListen : List ℕ → List ℕ → ℕ → List ℕ → Type 0
 OpensListen capture out r out′ = Opens (listening capture out) (recordBytes capture) out r out′
+
+abbrev pub OpensWriteVcd : List ℕ → List ℕ → ℕ → List ℕ → Type 0
+OpensWriteVcd log out r out′ = Opens (writing log out) (waveform log) out r out′
+
+abbrev pub OpensReadVcd : List ℕ → List ℕ → ℕ → List ℕ → Type 0
+OpensReadVcd text out r out′ = Reading text out (λ answer result. Opens answer result out r out′)

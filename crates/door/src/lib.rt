@@ -7,8 +7,10 @@ use listener::listen;
 use machine::plain;
 use machine::run;
 use verdict::Verdict;
+use waveform::read_vcd;
+use waveform::write_vcd;
 ghost use mathlib.Core.Path.{_≡_};
-ghost use Rattle.door.specs.Door.{codeOf, OpensTranslate, OpensDecode, OpensRun, OpensPlain, OpensListen};
+ghost use Rattle.door.specs.Door.{codeOf, OpensTranslate, OpensDecode, OpensRun, OpensPlain, OpensListen, OpensWriteVcd, OpensReadVcd};
 
 fn code(answer: Verdict) -> u64
     ensures { λ r. ⌜ r ≡ codeOf answer ⌝ }
@@ -73,4 +75,18 @@ pub extern "C" fn taksherub_listen(levels: &[u8], answers: &mut [u8]) -> u64
     ensures { λ r. ⌜ OpensListen (now (levels .entry)) (now (answers .entry)) r (now (answers .exit)) ⌝ }
 {
     code(listen(levels, answers))
+}
+
+#[no_mangle]
+pub extern "C" fn taksherub_write_vcd(log: &[u8], text: &mut [u8]) -> u64
+    ensures { λ r. ⌜ OpensWriteVcd (now (log .entry)) (now (text .entry)) r (now (text .exit)) ⌝ }
+{
+    code(write_vcd(log, text))
+}
+
+#[no_mangle]
+pub extern "C" fn taksherub_read_vcd(text: &[u8], flags: &mut [u8]) -> u64
+    ensures { λ r. ⌜ OpensReadVcd (now (text .entry)) (now (flags .entry)) r (now (flags .exit)) ⌝ }
+{
+    code(read_vcd(text, flags))
 }

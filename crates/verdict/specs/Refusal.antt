@@ -62,6 +62,10 @@ wrongLogLength = 13
 abbrev pub wrongLevel : ℕ
 wrongLevel = 16
 
+-- text of a waveform that the writer never writes (document 02, E3)
+abbrev pub wrongText : ℕ
+wrongText = 18
+
 -- "A refusal returns its number and the record's index from 0": of each answer its number, 0 for none, and its index
 abbrev pub number : Verdict → ℕ
 number (Done n) = 0

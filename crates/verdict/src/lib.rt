@@ -39,6 +39,8 @@ impl Verdict {
     pub const WRONG_LOG_LENGTH: u8 = 13;
 
     pub const WRONG_LEVEL: u8 = 16;
+
+    pub const WRONG_TEXT: u8 = 18;
 }
 
 // A file's byte; past the end it reads 0.

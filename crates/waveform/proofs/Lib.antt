@@ -1,0 +1,14 @@
+pub mod Puts
+pub mod Starts
+pub mod Texts
+pub mod Within
+pub mod Clocks
+pub mod Writing
+pub mod Logs
+pub mod Longest
+pub mod ValueLines
+pub mod Reading
+pub mod GoingOver
+pub mod ReadBack
+pub mod Laws
+pub mod Examples

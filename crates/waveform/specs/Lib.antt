@@ -1,0 +1,4 @@
+pub mod Text
+pub mod Signals
+pub mod Waveform
+pub mod Passes
