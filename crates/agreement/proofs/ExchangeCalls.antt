@@ -32,7 +32,7 @@ use Rattle.machine.specs.Run.{mostSteps, largestStep, stepsVerdict, running, lo
 use Rattle.machine.specs.Plain.{planning}
 use Rattle.machine.proofs.Accepts.{room-done}
 use Rattle.machine.proofs.RunLaws.{log-length}
-use Rattle.agreement.specs.Exchange.{answersOfExchange, physAfterExchange, Exchanged, Ready}
+use Rattle.agreement.specs.Exchange.{sendVerdict, sending, logOfExchange, physAfterExchange, Sent, answersOfExchange, Exchanged}
 
 -- every step of a translation is one of the four
 abbrev OneOfFour : ℕ → Type 0
@@ -112,10 +112,6 @@ module _ (list : List ℕ) (n : ℕ) (accepted : listVerdict list ≡ Done n) wh
       bytes-done mostSteps largestStep wrongStep (translation list) (omega (arith, few, steps-counted)) (λ k h. step-of-four list k)
       ∙ ap Done steps-counted
 
-  -- its run is refused for the board and the events alone
-  running-list : (board : Board) (events log : List ℕ) → length log ≡ mostSteps * logRecord → running board (translation list) events log ≡ andThen (checked board) (λ phys. andThen (eventsVerdict board events (n * clocks)) (λ happenings. Done (n * clocks * logRecord)))
-  running-list board events log room = rw (steps-accepted, room-done log (n * clocks * logRecord) (omega (arith, few)))
-
   -- its log is refused for room alone
   pub decoding-log : (board : Board) (events out : List ℕ) → decoding list (logOfRun board (translation list) events) out ≡ roomFor out (n * answerRecord)
   decoding-log board events out = rw (accepted, eq-eqb _ (n * logPartBytes) (log-counted board events ∙ omega arith))
@@ -129,14 +125,14 @@ translating-list list out room = go (listVerdict list) refl
     go (Refused c k) e = refl
 
 -- a translated list: what its steps are
-pub record Sent (list out : List ℕ) (m : ℕ) : Type 0 where
+pub record Stepped (list out : List ℕ) (m : ℕ) : Type 0 where
   pub count : ℕ
   pub accepted : listVerdict list ≡ Done count
   pub steps : Starts out (translation list) m
 
 module _ (list : List ℕ) {room out : List ℕ} {answer : Verdict} (long : length room ≡ mostSteps) (translated : Translated list room answer out) where
-  pub sent : {m : ℕ} → answer ≡ Done m → Sent list out m
-  sent {m} e =
+  pub stepped : {m : ℕ} → answer ≡ Done m → Stepped list out m
+  stepped {m} e =
       let done = sym (translated .verdict) ∙ e in
       let by = done-by (listVerdict list) _ (sym (translating-list list room long) ∙ done) in
       record {
@@ -145,44 +141,67 @@ module _ (list : List ℕ) {room out : List ℕ} {answer : Verdict} (long : leng
         steps = starts (translation list) room out m (translated .output ∙ rw done) (steps-counted list (by .count) (by .passes) ∙ done-size (by .rest));
       }
 
-  pub not-sent : {c k : ℕ} → answer ≡ Refused c k → listVerdict list ≡ Refused c k
-  not-sent e = refused-by (listVerdict list) (λ n. n * clocks) (sym (translating-list list room long) ∙ sym (translated .verdict) ∙ e)
+  pub not-stepped : {c k : ℕ} → answer ≡ Refused c k → listVerdict list ≡ Refused c k
+  not-stepped e = refused-by (listVerdict list) (λ n. n * clocks) (sym (translating-list list room long) ∙ sym (translated .verdict) ∙ e)
 
--- a run of those steps on a sound board: what its log and its board are
-pub record Logged (before : Board) (list events out : List ℕ) (n m : ℕ) (after : Board) : Type 0 where
-  pub happenings : ℕ
-  pub happening : eventsVerdict before events (n * clocks) ≡ Done happenings
-  pub log : Starts out (logOfRun before (translation list) events) m
+-- checks behind others, one by one
+one-by-one : (first : Verdict) (next last : ℕ → Verdict) → andThen (andThen first next) last ≡ andThen first (λ n. andThen (next n) last)
+one-by-one (Done n) next last = refl
+one-by-one (Refused c k) next last = refl
+
+module _ (board : Board) (list events : List ℕ) where
+  -- the plain machine is refused as a list that is sent, but for its room
+  pub planning-sends : (out : List ℕ) → planning board list events out ≡ andThen (sendVerdict board list events) (λ n. roomFor out (n * answerRecord))
+  planning-sends out = simp one-by-one
+
+  -- what is sent has an accepted list
+  pub sent-list : {n : ℕ} → sendVerdict board list events ≡ Done n → listVerdict list ≡ Done n
+  sent-list e =
+      let on-board = done-by (checked board) _ e in
+      let on-list = done-by (listVerdict list) _ (on-board .rest) in
+      on-list .passes ∙ done-by (eventsVerdict board events (on-list .count * clocks)) _ (on-list .rest) .rest
+
+  -- a run of the steps of an accepted list is that list sent
+  pub sent-by-run : {steps out out′ : List ℕ} {n : ℕ} {r : Outcome} → listVerdict list ≡ Done n → steps ≡ translation list → Ran board steps events out r out′ → Sent board list events out r out′
+  sent-by-run {steps} {out} {out′} {n} {r} accepted translated ran =
+      let same : running board (translation list) events out ≡ sending board list events out = rw (steps-accepted list n accepted, accepted) (simp one-by-one) in
+      rw same at (rw translated at ran)
+
+-- a list that was sent with room for every log: what its log and its board are
+pub record Logged (before : Board) (list events out : List ℕ) (m : ℕ) (after : Board) : Type 0 where
+  pub count : ℕ
+  pub passes : sendVerdict before list events ≡ Done count
+  pub log : Starts out (logOfExchange before list events) m
   pub board : after ≡ withPhys before (physAfterExchange before list events)
 
-module _ (before : Board) (list events : List ℕ) {steps : List ℕ} (ready : Ready before list steps) where
-  abbrev happens : Verdict
-  happens = eventsVerdict before events (ready .count * clocks)
+module _ (before : Board) (list events : List ℕ) where
+  module _ {room out : List ℕ} {r : Outcome} (long : length room ≡ mostSteps * logRecord) (sent : Sent before list events room r out) where
+    room-for-all : sending before list events room ≡ andThen (sendVerdict before list events) (λ n. Done (n * clocks * logRecord))
+    room-for-all = go (sendVerdict before list events) refl
+      where
+        go : (v : Verdict) → sendVerdict before list events ≡ v → andThen v (λ n. roomFor room (n * clocks * logRecord)) ≡ andThen v (λ n. Done (n * clocks * logRecord))
+        go (Done n) e = room-done room (n * clocks * logRecord) (omega (arith, few list n (sent-list before list events e)))
+        go (Refused c k) e = refl
 
-  module _ {room out : List ℕ} {r : Outcome} (long : length room ≡ mostSteps * logRecord) (ran : Ran before steps events room r out) where
-    on-sound : running before steps events room ≡ andThen happens (λ happenings. Done (ready .count * clocks * logRecord))
-    on-sound = rw (ready .translated) (running-list list (ready .count) (ready .accepted) before events room long ∙ rw (ready .sound))
-
-    pub logged : {m : ℕ} → r .verdict ≡ Done m → Logged before list events out (ready .count) m (r .board)
+    pub logged : {m : ℕ} → r .verdict ≡ Done m → Logged before list events out m (r .board)
     logged {m} e =
-        let done = sym (ran .writes .verdict) ∙ e in
-        let by = done-by happens _ (sym on-sound ∙ done) in
+        let done = sym (sent .writes .verdict) ∙ e in
+        let by = done-by (sendVerdict before list events) _ (sym room-for-all ∙ done) in
+        let accepted = sent-list before list events (by .passes) in
         record {
-          happenings = by .count;
-          happening = by .passes;
-          log = starts (logOfRun before (translation list) events) room out m (ran .writes .output ∙ rw (done, ready .translated)) (log-counted list (ready .count) (ready .accepted) before events ∙ done-size (by .rest));
-          board = ran .board ∙ rw (done, ready .translated);
+          count = by .count;
+          passes = by .passes;
+          log = starts (logOfExchange before list events) room out m (sent .writes .output ∙ rw done) (log-counted list (by .count) accepted before events ∙ done-size (by .rest));
+          board = sent .board ∙ rw done;
         }
 
-    pub not-logged : (answers : List ℕ) {c k : ℕ} → r .verdict ≡ Refused c k → planning before list events answers ≡ Refused c k
-    not-logged answers e =
-        let refused = refused-by happens (λ h. ready .count * clocks * logRecord) (sym on-sound ∙ sym (ran .writes .verdict) ∙ e) in
-        rw (ready .sound, ready .accepted, refused)
+    pub not-logged : {c k : ℕ} → r .verdict ≡ Refused c k → sendVerdict before list events ≡ Refused c k
+    not-logged e = refused-by (sendVerdict before list events) (λ n. n * clocks * logRecord) (sym room-for-all ∙ sym (sent .writes .verdict) ∙ e)
 
   -- what the decoder says of that log is the answer, and the bytes it writes are the result
-  module _ {log out out′ : List ℕ} {happenings : ℕ} {answer : Verdict} (happening : happens ≡ Done happenings) (held : log ≡ logOfRun before (translation list) events) (decoded : Decoded list log out answer out′) where
+  module _ {n : ℕ} {log out out′ : List ℕ} {answer : Verdict} (passes : sendVerdict before list events ≡ Done n) (held : log ≡ logOfExchange before list events) (decoded : Decoded list log out answer out′) where
     room-left : decoding list log out ≡ planning before list events out
-    room-left = rw held (decoding-log list (ready .count) (ready .accepted) before events out ∙ sym (rw (ready .sound, ready .accepted, happening)))
+    room-left = rw (held, planning-sends before list events out, passes) (decoding-log list n (sent-list before list events passes) before events out)
 
     answer-planned : planning before list events out ≡ answer
     answer-planned = sym (decoded .verdict ∙ room-left)

@@ -32,8 +32,12 @@ use Rattle.machine.proofs.Laws.{hands-back-unique}
 use Rattle.machine.proofs.Places.{phys-of-with}
 use Rattle.machine.proofs.SoundBoards.{SoundBoard, handed-back-sound, run-keeps}
 use Rattle.agreement.specs.Demand3.{Hunts, Demand3, registersOf, linksOf, followersOf, endsHunting}
-use Rattle.agreement.specs.Exchange.{answersOfExchange, physAfterExchange, Exchanged, SameAsPlain}
+use Rattle.agreement.specs.Exchange.{physAfterExchange, Sent, answersOfExchange, Exchanged, SameAsPlain}
 use Rattle.agreement.proofs.Demand3.{demand-3}
+
+-- two results that meet the promise of `send` are equal, as are the logs
+pub send-unique : (board : Board) (list events out : List ℕ) {r s : Outcome} {out₁ out₂ : List ℕ} → Sent board list events out r out₁ → Sent board list events out s out₂ → (r ≡ s) × (out₁ ≡ out₂)
+send-unique board list events out p q = hands-back-unique p q
 
 -- two results that meet the promise of `exchange` are equal, as are the answers
 pub exchange-unique : (board : Board) (list events out : List ℕ) {r s : Outcome} {out₁ out₂ : List ℕ} → Exchanged board list events out r out₁ → Exchanged board list events out s out₂ → (r ≡ s) × (out₁ ≡ out₂)
@@ -125,8 +129,11 @@ module _ (board : Board) (list events out : List ℕ) (typed : TypedBoard board)
           let same : length after ≡ length (physOf board) = sym (length-map after (λ phy. phy .follower)) ∙ ap length ends ∙ ends-length (transactions list) board in
           subst (All Hunts) (sym (phys-of-with board after same)) (all-hunt after (subst (All HuntsIn) (sym ends) (ends-hunt (transactions list) board hunt)))
 
--- "Every call keeps it": an exchange is a run of translated steps or a refusal
+-- "Every call keeps it": a list sent is a run of translated steps or a refusal, and so is an exchange
 module _ {n : ℕ} {board : Board} (list events : List ℕ) {out : List ℕ} {r : Outcome} {out′ : List ℕ} where
+  pub send-sound : SoundBoard n board → Sent board list events out r out′ → SoundBoard n (r .board)
+  send-sound is sent = handed-back-sound is (run-keeps is events (translation list)) sent
+
   pub exchange-sound : SoundBoard n board → Exchanged board list events out r out′ → SoundBoard n (r .board)
   exchange-sound is exchanged = handed-back-sound is (run-keeps is events (translation list)) exchanged
 

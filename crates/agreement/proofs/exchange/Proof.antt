@@ -1,48 +1,52 @@
--- 12 and the list's refusals come first, as in `planning`; what passes is translated whole, since there is room for the longest list.
-use mathlib.Core.Path.{_≡_, sym, _∙_}
-use Rattle.verdict.specs.declared.Verdict.the-variants.{Done}
-use Rattle.board.specs.Check.{checked}
-use Rattle.machine.proofs.Laws.{refuses-back}
-use Rattle.agreement.proofs.ExchangeCalls.{Sent, sent, not-sent}
-use borrow.Author.Needs.{needs}
+-- There is room for every log: so what is refused after `send` is refused for the answers' room alone, and the decoder gets the log of the run.
 use Rattle.agreement.proofs.exchange.Statement.{statement}
 use Rattle.agreement.proofs.exchange.Tie as tie
+use mathlib.Core.Path.{sym, _∙_}
+use Rattle.machine.proofs.Laws.{refuses-back}
+use Rattle.agreement.proofs.ExchangeCalls.{planning-sends, Logged, logged, not-logged, exchanged, not-decoded}
+use borrow.Author.Needs.{needs}
 
-sound : (c : tie.After-enum-told) → checked (c .before .before .before .before .before .before .args .board) ≡ Done (c .enum-told .given .0 .0)
-sound c = sym (c .before .before .check .ensures) ∙ c .enum-told .given .1
+-- the log of the run stands at the start of its room
+heard : (c : tie.After-heard) → let sent = c .before .before .before .before in let args = sent .before .before .before .before .before .before .args in
+    Logged (args .board) (args .list .now) (args .events .now) (sent .send .last .1 .1 .1 .0) (c .heard .given .0 .0) (sent .send .result .board)
+heard c = let sent = c .before .before .before .before in logged _ _ _ (sym (sent .before .before .room-for-log .ensures)) (sent .send .ensures) (c .heard .given .1)
 
--- the steps of the list stand at the start of their room
-translated : (c : tie.After-translated) → Sent (c .before .before .before .before .before .before .before .before .before .before .before .before .args .list .now) (c .before .before .before .translate .last .1 .0) (c .translated .given .0 .0)
-translated c = sent _ (sym (c .before .before .before .before .before .room-for-steps .ensures)) (c .before .before .before .translate .ensures) (c .translated .given .1)
+room-for-log-requires : tie.Need-room-for-log-requires
+room-for-log-requires c κs = search needs
 
-check-requires : tie.Need-check-requires
-check-requires c κs = search needs
+slice-aggregate-send : tie.Need-slice-aggregate-send
+slice-aggregate-send c = search needs
+
+send-requires : tie.Need-send-requires
+send-requires c κs = search needs
+
+enum-known-heard : tie.Need-enum-known-heard
+enum-known-heard c = search needs
 
 enum-told : tie.Need-enum-told
 enum-told c = search needs
-
-enum-told-2 : tie.Need-enum-told-2
-enum-told-2 c = search needs
 
 of-requires : tie.Need-of-requires
 of-requires c κs = search needs
 
 returns : tie.Need-returns
 returns c =
-    let refused = sym (c .before .before .before .check .ensures) ∙ c .before .enum-told2 .given .1 in
-    rw (c .of .ensures) (refuses-back (rw refused) (c .before .enum-told2 .given .1))
+    let sent = c .before .before .before .before .before in
+    let args = sent .before .before .before .before .before .before .args in
+    let refused = not-logged _ _ _ (sym (sent .before .before .room-for-log .ensures)) (sent .send .ensures) (c .before .enum-told .given .1) in
+    rw (c .of .ensures) (refuses-back (planning-sends _ _ _ (args .answers .now) ∙ rw refused) (c .before .enum-told .given .1))
 
-room-for-steps-requires : tie.Need-room-for-steps-requires
-room-for-steps-requires c κs = search needs
+array-share-prefix-log : tie.Need-array-share-prefix-log
+array-share-prefix-log c = heard (c .before) .log .within
 
-slice-aggregate-translate : tie.Need-slice-aggregate-translate
-slice-aggregate-translate c = search needs
+slice-aggregate-decode : tie.Need-slice-aggregate-decode
+slice-aggregate-decode c = heard (c .before .before) .log .size
 
-translate-requires : tie.Need-translate-requires
-translate-requires c κs = search needs
+decode-requires : tie.Need-decode-requires
+decode-requires c κs = search needs
 
-enum-known-translated : tie.Need-enum-known-translated
-enum-known-translated c = search needs
+enum-told-2 : tie.Need-enum-told-2
+enum-told-2 c = search needs
 
 enum-told-3 : tie.Need-enum-told-3
 enum-told-3 c = search needs
@@ -50,46 +54,44 @@ enum-told-3 c = search needs
 of-requires-2 : tie.Need-of-requires-2
 of-requires-2 c κs = search needs
 
-returns-2 : tie.Need-returns-2
-returns-2 c =
-    let refused = not-sent _ (sym (c .before .before .before .before .before .before .room-for-steps .ensures)) (c .before .before .before .before .translate .ensures) (c .before .enum-told3 .given .1) in
-    rw (c .of2 .ensures) (refuses-back (rw (sound (c .before .before .before .before .before .before .before), refused)) (c .before .enum-told3 .given .1))
-
-array-share-prefix-steps : tie.Need-array-share-prefix-steps
-array-share-prefix-steps c = translated (c .before) .steps .within
-
-slice-aggregate-run-and-decode : tie.Need-slice-aggregate-run-and-decode
-slice-aggregate-run-and-decode c = translated (c .before .before) .steps .size
-
-run-and-decode-requires : tie.Need-run-and-decode-requires
-run-and-decode-requires c κs =
-    let list = translated (c .before .before .before) in
-    record { phys = _; sound = sound (c .before .before .before .before .before .before .before .before .before); count = list .count; accepted = list .accepted; translated = list .steps .bytes }
-
 same-length : tie.Need-same-length
 same-length c = search needs
 
+returns-2 : tie.Need-returns-2
+returns-2 c =
+    let run = heard (c .before .before .before .before .before .before .before .before .before) in
+    rw (c .of2 .ensures) (not-decoded _ _ _ (run .passes) (run .log .bytes) (c .before .before .before .before .before .decode .ensures) (c .before .enum-told3 .given .1))
+
+of-requires-3 : tie.Need-of-requires-3
+of-requires-3 c κs = search needs
+
+same-length-2 : tie.Need-same-length-2
+same-length-2 c = search needs
+
 returns-3 : tie.Need-returns-3
-returns-3 c = search needs
+returns-3 c =
+    let run = heard (c .before .before .before .before .before .before .before .before .before) in
+    rw (c .of3 .ensures) (exchanged _ _ _ (run .passes) (run .log .bytes) (c .before .before .before .before .before .decode .ensures) (c .before .enum-told2 .given .1) (run .board))
 
 pub exchange-spec : {M : Type 1} → statement M
 exchange-spec =
     tie.close
     (tie.spec
-    check-requires
+    room-for-log-requires
+    slice-aggregate-send
+    send-requires
+    enum-known-heard
     enum-told
-    enum-told-2
     of-requires
     returns
-    room-for-steps-requires
-    slice-aggregate-translate
-    translate-requires
-    enum-known-translated
+    array-share-prefix-log
+    slice-aggregate-decode
+    decode-requires
+    enum-told-2
     enum-told-3
     of-requires-2
-    returns-2
-    array-share-prefix-steps
-    slice-aggregate-run-and-decode
-    run-and-decode-requires
     same-length
+    returns-2
+    of-requires-3
+    same-length-2
     returns-3)
