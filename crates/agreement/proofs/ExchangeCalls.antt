@@ -103,7 +103,7 @@ module _ (list : List ℕ) (n : ℕ) (accepted : listVerdict list ≡ Done n) wh
   pub steps-counted : length (translation list) ≡ n * clocks
   steps-counted = length-translation list ∙ ap (λ m. m * clocks) (sym (accepted-list list n accepted .count))
 
-  log-counted : (board : Board) (events : List ℕ) → length (logOfRun board (translation list) events) ≡ n * clocks * logRecord
+  pub log-counted : (board : Board) (events : List ℕ) → length (logOfRun board (translation list) events) ≡ n * clocks * logRecord
   log-counted board events = log-length board (translation list) events ∙ ap (λ m. m * logRecord) steps-counted
 
   -- its steps pass
@@ -145,7 +145,7 @@ module _ (list : List ℕ) {room out : List ℕ} {answer : Verdict} (long : leng
   not-stepped e = refused-by (listVerdict list) (λ n. n * clocks) (sym (translating-list list room long) ∙ sym (translated .verdict) ∙ e)
 
 -- checks behind others, one by one
-one-by-one : (first : Verdict) (next last : ℕ → Verdict) → andThen (andThen first next) last ≡ andThen first (λ n. andThen (next n) last)
+pub one-by-one : (first : Verdict) (next last : ℕ → Verdict) → andThen (andThen first next) last ≡ andThen first (λ n. andThen (next n) last)
 one-by-one (Done n) next last = refl
 one-by-one (Refused c k) next last = refl
 

@@ -25,7 +25,7 @@ never e = absurd (let z : _≡_ {A = ℕ} 0 1 = cc in omega arith)
 pub room-done : (out : List ℕ) (n : ℕ) → n ≤ length out → roomFor out n ≡ Done n
 room-done out n fits = rw (le-ltb (length out) n fits)
 
-room-fits : (out : List ℕ) (n m : ℕ) → roomFor out n ≡ Done m → n ≤ length out
+pub room-fits : (out : List ℕ) (n m : ℕ) → roomFor out n ≡ Done m → n ≤ length out
 room-fits out n m e = go (ltb (length out) n) refl e
   where
     go : (b : Bool) → ltb (length out) n ≡ b → refuse (noRoom when b) 0 (Done n) ≡ Done m → n ≤ length out

@@ -1,2 +1,4 @@
 pub mod Input
 pub mod Line
+pub mod Tray
+pub mod Drawing

@@ -1,8 +1,9 @@
 // The bench's program. Started without arguments it sends a list over the wire, and prints an answer a line, or one refusal;
-// with `listen` it reads a capture back.
+// with `vcd` it prints the waveform of that run, and with `listen` it reads a capture back.
 mod capture;
 mod input;
 mod report;
+mod wave;
 
 use agreement::exchange;
 use board::Board;
@@ -12,10 +13,29 @@ use frame::check_list;
 use libc::STDERR_FILENO;
 use libc::STDIN_FILENO;
 use verdict::Verdict;
+ghost use Rattle.mdiobench.specs.Tray.{Passed};
 
-// The files are checked in the order board, list, events. Where board and list have passed, the board is sound and there is
-// room for every answer, so that only the events can be refused (`only-events`).
-fn bench(board_file: &[u8], list: &[u8], events: &[u8]) {
+// What is asked of a tray.
+enum Wanted {
+    Answers,
+    Waveform,
+}
+
+// Board and list have passed, and there is room for every answer: only the events can be refused (`only-events`).
+fn answer(board: Board, list: &[u8], events: &[u8])
+    requires { ⌜ Passed board (now list) ⌝ }
+{
+    let mut answers = report::room_for_answers();
+    let outcome = exchange(board, list, events, &mut answers);
+    let verdict = outcome.verdict;
+    let Verdict::Done(size) = verdict else {
+        return report::refusal(verdict, b"events");
+    };
+    report::answers(&answers[..size]);
+}
+
+// The files are checked in the order board, list, events.
+fn bench(board_file: &[u8], list: &[u8], events: &[u8], wanted: Wanted) {
     let loaded = load(board_file);
     let verdict = loaded.verdict;
     let Verdict::Done(_) = verdict else {
@@ -25,17 +45,14 @@ fn bench(board_file: &[u8], list: &[u8], events: &[u8]) {
     let Verdict::Done(_) = listed else {
         return report::refusal(listed, b"list");
     };
-    let mut answers = report::room_for_answers();
-    let outcome = exchange(loaded.board, list, events, &mut answers);
-    let verdict = outcome.verdict;
-    let Verdict::Done(size) = verdict else {
-        return report::refusal(verdict, b"events");
-    };
-    report::answers(&answers[..size]);
+    match wanted {
+        Wanted::Answers => answer(loaded.board, list, events),
+        Wanted::Waveform => wave::show(loaded.board, list, events),
+    }
 }
 
 // Document 01: "The program takes the list on standard input, and `board.rec` and `events.rec` from its directory".
-fn tray() {
+fn tray(wanted: Wanted) {
     let mut board_file = input::room_for_board();
     let board_bytes = input::read_file(b"board.rec", &mut board_file, Board::RECORD);
     let mut list = input::room_for_list();
@@ -46,25 +63,29 @@ fn tray() {
         &board_file[..board_bytes],
         &list[..list_bytes],
         &events[..event_bytes],
+        wanted,
     );
 }
 
-// Whether the first argument is `listen`; one that is longer leaves an empty word.
-fn says_listen() -> bool {
-    let mut word = [0u8; 6];
-    let size = os::arg(1, &mut word);
-    check::same(&word[..size], b"listen")
+// Whether the first argument is this word; one that is longer than any of them leaves an empty one.
+fn says(word: &[u8]) -> bool {
+    let mut first = [0u8; 6];
+    let size = os::arg(1, &mut first);
+    check::same(&first[..size], word)
 }
 
 fn main() {
     let words = os::arg_count();
     if words < 2 {
-        return tray();
+        return tray(Wanted::Answers);
     }
     if words == 2 {
-        if says_listen() {
+        if says(b"vcd") {
+            return tray(Wanted::Waveform);
+        }
+        if says(b"listen") {
             return capture::run();
         }
     }
-    io::write_all(STDERR_FILENO, b"usage: mdiobench [listen]\n");
+    io::write_all(STDERR_FILENO, b"usage: mdiobench [listen | vcd]\n");
 }

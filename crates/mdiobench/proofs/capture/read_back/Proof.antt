@@ -1,18 +1,21 @@
--- There is room for every record, so what `listen` wrote is within it.
-use Prim.Native.Nat.{_≤_}
+-- Room is asked for last, so what `listen` wrote is within it.
+use Prim.Native.Nat.{_*_, _≤_}
 use native.Mathlib.Omega.{arith}
 use lib.ListN.{length}
 use borrow.Author.Needs.{needs}
 use Rattle.io.proofs.Counting.{counts}
-use Rattle.mdiobench.proofs.Refusals.{records-within}
+use Rattle.frame.specs.Answers.{answerRecord}
+use Rattle.listener.specs.Listening.{captureVerdict, recordsIn}
+use Rattle.mdiobench.proofs.Refusals.{within-room}
 use Rattle.mdiobench.proofs.capture.read_back.Statement.{statement}
 use Rattle.mdiobench.proofs.capture.read_back.Tie as tie
 
-within : (c : tie.After-known-told) → c .before .verdict .given .0 .0 ≤ length (c .before .before .before .before .listen .last .1 .0)
+within : (c : tie.After-known-told) → let called = c .before .before .before .before in c .before .verdict .given .0 .0 ≤ length (called .listen .last .1 .0)
 within c =
     let called = c .before .before .before .before in
-    let room : 390 ≤ length (called .before .before .room-for-answers .result) = omega arith in
-    omega (arith, records-within (called .before .before .before .before .args .levels .now) (called .listen .ensures) (c .before .verdict .given .1) room)
+    let capture = called .before .before .before .before .args .levels .now in
+    let room = called .before .before .room-for-answers .result in
+    omega (arith, within-room (captureVerdict capture) (λ n. length (recordsIn capture) * answerRecord) room (called .listen .ensures .verdict) (c .before .verdict .given .1))
 
 room-for-answers-requires : tie.Need-room-for-answers-requires
 room-for-answers-requires c κs = search needs
