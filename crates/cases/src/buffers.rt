@@ -5,10 +5,12 @@
 //     event R B V     byte B of event record R becomes V
 //     occurs R C N    event record R becomes code N at clock C, for address 1
 //     steps A B V     the steps from place A up to B become V
+//     turn A B V      the flags of log records A up to B become V and 0 in turn
 //
 // A buffer comes from a function of its own: its caller then knows its length and not its bytes.
 use crate::script::Word;
 use board::Board;
+use frame::Frame;
 use frame::Transaction;
 
 pub(crate) type File = [u8; 4422];
@@ -23,7 +25,9 @@ pub(crate) type Log = [u8; 20806];
 
 pub(crate) type Answers = [u8; 391];
 
-// A byte that no log has in its flags, though its level is 0.
+pub(crate) type Text = [u8; 61539];
+
+// A byte that no log has for its flags, and no text anywhere; as flags it says that no signal is 1.
 const UNWRITTEN: u8 = 8;
 
 pub(crate) fn steps() -> Steps {
@@ -36,6 +40,10 @@ pub(crate) fn log() -> Log {
 
 pub(crate) fn answers() -> Answers {
     [UNWRITTEN; 391]
+}
+
+pub(crate) fn text() -> Text {
+    [UNWRITTEN; 61539]
 }
 
 // 33 board records like board P's, one more than a board may have, with the addresses 0 to 32.
@@ -110,12 +118,23 @@ fn fill(steps: &mut [u8], from: u32, end: u32, value: u32) {
     }
 }
 
+fn turn(log: &mut [u8], from: u32, end: u32, value: u32) {
+    let mut on = true;
+    let mut k = from as usize;
+    while k < end as usize {
+        put(log, k * Frame::LOG_RECORD, if on { value } else { 0 });
+        on = !on;
+        k += 1;
+    }
+}
+
 pub(crate) fn write(
     word: Word,
     file: &mut File,
     list: &mut List,
     steps: &mut Steps,
     events: &mut Events,
+    log: &mut Log,
 ) {
     let letter = word.letter;
     let record = word.a as usize;
@@ -126,6 +145,7 @@ pub(crate) fn write(
         b'e' => put(events, record * Board::EVENT_RECORD + byte, word.c),
         b'o' => put_event(events, word.a, word.b, word.c),
         b's' => fill(steps, word.a, word.b, word.c),
+        b't' => turn(log, word.a, word.b, word.c),
         _ => {}
     }
 }

@@ -4,6 +4,7 @@
 //     Decode L G N      the list's first L bytes and the log's first G into the first N of the answers
 //     Back C N          the first C steps as a capture, read back into the first N of the answers
 //     Measure G K       how long part K of the log's first G bytes is
+//     Vcd G N           the log's first G bytes as a waveform, into the first N of the text
 //     Load N            the board file's first N bytes
 //     Check             the board
 //     Events N C        check the events' first N bytes on the board, where the last clock is C
@@ -15,6 +16,7 @@ use crate::buffers::File;
 use crate::buffers::List;
 use crate::buffers::Log;
 use crate::buffers::Steps;
+use crate::buffers::Text;
 use crate::script::Word;
 use crate::text;
 use board::Board;
@@ -55,12 +57,27 @@ fn listen(word: Word, levels: &[u8], answers: &mut [u8]) {
     }
 }
 
-pub(crate) fn frames(word: Word, list: &List, steps: &mut Steps, log: &Log, answers: &mut Answers) {
+fn vcd(word: Word, log: &[u8], output: &mut [u8]) {
+    let room = word.b as usize;
+    if room <= output.len() {
+        text::answer(waveform::write_vcd(first(log, word.a), &mut output[..room]));
+    }
+}
+
+pub(crate) fn frames(
+    word: Word,
+    list: &List,
+    steps: &mut Steps,
+    log: &Log,
+    answers: &mut Answers,
+    text: &mut Text,
+) {
     let letter = word.letter;
     match letter {
         b'T' => translate(word, list, steps),
         b'D' => decode(word, list, log, answers),
         b'B' => listen(word, steps, answers),
+        b'V' => vcd(word, log, text),
         b'M' => text::number(frame::log_part(first(log, word.a), word.b as usize).len()),
         _ => {}
     }

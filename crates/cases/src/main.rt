@@ -15,6 +15,7 @@ use buffers::File;
 use buffers::List;
 use buffers::Log;
 use buffers::Steps;
+use buffers::Text;
 use script::Word;
 
 // What a word of a case does, to the buffers and to the board. A misspelt one shows as a question mark.
@@ -27,15 +28,16 @@ fn obey(
     events: &mut Events,
     log: &mut Log,
     answers: &mut Answers,
+    text: &mut Text,
 ) -> Board {
     let letter = word.letter;
     match letter {
-        b'f' | b'l' | b'e' | b'o' | b's' => {
-            buffers::write(word, file, list, steps, events);
+        b'f' | b'l' | b'e' | b'o' | b's' | b't' => {
+            buffers::write(word, file, list, steps, events, log);
             board
         }
-        b'T' | b'D' | b'B' | b'M' => {
-            calls::frames(word, list, steps, log, answers);
+        b'T' | b'D' | b'B' | b'M' | b'V' => {
+            calls::frames(word, list, steps, log, answers, text);
             board
         }
         b'L' | b'C' | b'E' => {
@@ -43,8 +45,8 @@ fn obey(
             board
         }
         b'R' | b'P' => calls::machines(board, word, list, steps, events, log, answers),
-        b',' | b'A' | b'H' | b'W' | b'S' | b'G' | b'F' => {
-            show::all(board, word, steps, log, answers);
+        b',' | b'A' | b'H' | b'W' | b'S' | b'G' | b'F' | b'O' => {
+            show::all(board, word, steps, log, answers, text);
             board
         }
         b'p' | b'n' => changes::whole(board, word, file),
@@ -64,6 +66,7 @@ fn try_words(line: &[u8], from: usize) {
     let mut steps = buffers::steps();
     let mut log = buffers::log();
     let mut answers = buffers::answers();
+    let mut text = buffers::text();
     let mut board = changes::none();
     let mut at = from;
     while at < line.len() {
@@ -81,6 +84,7 @@ fn try_words(line: &[u8], from: usize) {
             &mut events,
             &mut log,
             &mut answers,
+            &mut text,
         );
         board = after;
         at = next;

@@ -7,9 +7,11 @@
 //     Step I       byte I of the steps
 //     Given I      byte I of the answers
 //     Flag I       byte I of the log
+//     Output I     byte I of the text
 use crate::buffers::Answers;
 use crate::buffers::Log;
 use crate::buffers::Steps;
+use crate::buffers::Text;
 use crate::script::Word;
 use crate::text;
 use board::Board;
@@ -35,7 +37,14 @@ fn register(board: Board, word: Word) {
     }
 }
 
-pub(crate) fn all(board: Board, word: Word, steps: &Steps, log: &Log, answers: &Answers) {
+pub(crate) fn all(
+    board: Board,
+    word: Word,
+    steps: &Steps,
+    log: &Log,
+    answers: &Answers,
+    text: &Text,
+) {
     let letter = word.letter;
     match letter {
         b',' => text::words(b","),
@@ -51,6 +60,7 @@ pub(crate) fn all(board: Board, word: Word, steps: &Steps, log: &Log, answers: &
         b'S' => byte(steps, word.a as usize),
         b'G' => byte(answers, word.a as usize),
         b'F' => byte(log, word.a as usize),
+        b'O' => byte(text, word.a as usize),
         _ => {}
     }
 }

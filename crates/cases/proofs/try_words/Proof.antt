@@ -6,11 +6,11 @@ use Rattle.cases.proofs.try_words.Statement.{statement}
 use Rattle.cases.proofs.try_words.Tie as tie
 
 abbrev Inv-loop : tie.InvT-loop
-Inv-loop line from file₀ list₀ events₀ steps₀ log₀ answers₀ board₀ at₀ file list events steps log answers board at =
+Inv-loop line from file₀ list₀ events₀ steps₀ log₀ answers₀ text₀ board₀ at₀ file list events steps log answers text board at =
     from ≤ at
 
 abbrev μ-loop : tie.MeasureT-loop
-μ-loop line from file₀ list₀ events₀ steps₀ log₀ answers₀ board₀ at₀ file list events steps log answers board at =
+μ-loop line from file₀ list₀ events₀ steps₀ log₀ answers₀ text₀ board₀ at₀ file list events steps log answers text board at =
     length line - at
 
 file-requires : tie.Need-file-requires Inv-loop μ-loop
@@ -30,6 +30,9 @@ log-requires c κs = search needs
 
 answers-requires : tie.Need-answers-requires Inv-loop μ-loop
 answers-requires c κs = search needs
+
+text-requires : tie.Need-text-requires Inv-loop μ-loop
+text-requires c κs = search needs
 
 none-requires : tie.Need-none-requires Inv-loop μ-loop
 none-requires c κs = search needs
@@ -67,6 +70,7 @@ try-words-spec =
     steps-requires
     log-requires
     answers-requires
+    text-requires
     none-requires
     loop-holds
     word-at-requires
