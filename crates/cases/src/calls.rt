@@ -5,6 +5,7 @@
 //     Back C N          the first C steps as a capture, read back into the first N of the answers
 //     Measure G K       how long part K of the log's first G bytes is
 //     Vcd G N           the log's first G bytes as a waveform, into the first N of the text
+//     Interpret T N     the text's first T bytes read back, into the first N of the steps
 //     Load N            the board file's first N bytes
 //     Check             the board
 //     Events N C        check the events' first N bytes on the board, where the last clock is C
@@ -64,6 +65,14 @@ fn vcd(word: Word, log: &[u8], output: &mut [u8]) {
     }
 }
 
+// A text read back gives a byte for each clock as the steps have, so it goes to their buffer.
+fn interpret(word: Word, text: &[u8], flags: &mut [u8]) {
+    let room = word.b as usize;
+    if room <= flags.len() {
+        text::answer(waveform::read_vcd(first(text, word.a), &mut flags[..room]));
+    }
+}
+
 pub(crate) fn frames(
     word: Word,
     list: &List,
@@ -78,6 +87,7 @@ pub(crate) fn frames(
         b'D' => decode(word, list, log, answers),
         b'B' => listen(word, steps, answers),
         b'V' => vcd(word, log, text),
+        b'I' => interpret(word, text, steps),
         b'M' => text::number(frame::log_part(first(log, word.a), word.b as usize).len()),
         _ => {}
     }

@@ -36,7 +36,7 @@ fn obey(
             buffers::write(word, file, list, steps, events, log);
             board
         }
-        b'T' | b'D' | b'B' | b'M' | b'V' => {
+        b'T' | b'D' | b'B' | b'M' | b'V' | b'I' => {
             calls::frames(word, list, steps, log, answers, text);
             board
         }
