@@ -24,7 +24,7 @@ pub fn listen(capture: &[u8], answers: &mut [u8]) -> Result<(), Refusal> {
 #[cfg(test)]
 mod tests {
     use super::*;
-    use crate::model::tests::refused;
+    use crate::model::tests::{self, refused};
 
     const ONES: &str = "11111111111111111111111111111111";
     const WRITE: &str = "01 01 00011 00000 10 0001001000000000";
@@ -39,20 +39,9 @@ mod tests {
         text.bytes().filter(|&sign| sign != b' ').map(|sign| sign - b'0').collect()
     }
 
-    /// Holds a capture to the records wanted: they fit into just their room and not into less, and the bytes behind them stay.
+    /// Holds a capture to the records wanted.
     fn gives(capture: &[u8], wanted: &[[u8; 6]]) {
-        let (full, mut output) = (6 * wanted.len(), vec![9; 6 * wanted.len() + 7]);
-        assert_eq!(listen(capture, &mut output[..full]), Ok(()));
-        assert_eq!(output[..full], *wanted.as_flattened());
-        output[..full].fill(9);
-        assert_eq!(listen(capture, &mut output), Ok(()));
-        assert_eq!(output[..full], *wanted.as_flattened());
-        assert_eq!(output[full..], [9; 7]);
-        if full > 0 {
-            output[..full].fill(9);
-            assert_eq!(listen(capture, &mut output[..full - 1]), refused(10, 0));
-            assert_eq!(output, vec![9; full + 7]);
-        }
+        tests::gives(wanted.as_flattened(), |answers| listen(capture, answers));
     }
 
     /// The same of levels written as text.

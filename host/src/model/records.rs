@@ -24,8 +24,9 @@ impl Refusal {
     pub const STEP: u8 = 11;
     pub const LOG_LENGTH: u8 = 13;
     pub const LEVEL: u8 = 16;
+    pub const TEXT: u8 = 18;
 
-    /// A refusal of the whole file, output or log: its index is 0.
+    /// A refusal of the whole file, output, log or text: its index is 0.
     pub fn whole(number: u8) -> Refusal {
         Refusal { number, index: 0 }
     }

@@ -1,6 +1,7 @@
 //! Document 01's bench cases, limits and worked example, with the document's values.
 
 mod foreign_frames;
+mod waveforms;
 
 use super::*;
 use crate::make::{board_p, event, phy, read, write};
@@ -34,6 +35,22 @@ fn reads(list: &[[u8; 6]], events: &[[u8; 4]]) -> Vec<u16> {
 
 pub fn refused<T>(number: u8, index: usize) -> Result<T, Refusal> {
     Err(Refusal { number, index })
+}
+
+/// Holds a call to the bytes wanted: they fit into just their room and not into less, and the bytes behind them stay.
+pub fn gives(wanted: &[u8], call: impl Fn(&mut [u8]) -> Result<(), Refusal>) {
+    let (full, mut output) = (wanted.len(), vec![9; wanted.len() + 7]);
+    assert_eq!(call(&mut output[..full]), Ok(()));
+    assert_eq!(output[..full], *wanted);
+    output[..full].fill(9);
+    assert_eq!(call(&mut output), Ok(()));
+    assert_eq!(output[..full], *wanted);
+    assert_eq!(output[full..], [9; 7]);
+    if full > 0 {
+        output[..full].fill(9);
+        assert_eq!(call(&mut output[..full - 1]), refused(10, 0));
+        assert_eq!(output, vec![9; full + 7]);
+    }
 }
 
 #[test]
