@@ -1,10 +1,11 @@
 /* The door for a program that cannot link it, being of another processor
  * (host/src/door/piped.rs): answers requests from standard input until it ends.
  *
- * A request is a letter for the call (t, r, d, p or l) and the call's slices in
- * the order of taksherub.h, so the output last: of each its length and its
- * bytes. The response is the call's answer and the bytes that are in the output
- * after it. A length or an answer has 8 bytes, low byte first, as in x86-64. */
+ * A request is a letter for the call (t, r, d, p, l, w or v) and the call's
+ * slices in the order of taksherub.h, so the output last: of each its length and
+ * its bytes. The response is the call's answer and the bytes that are in the
+ * output after it. A length or an answer has 8 bytes, low byte first, as in
+ * x86-64. */
 #include "taksherub.h"
 
 #include <stdio.h>
@@ -56,6 +57,8 @@ static int slices_of(int call)
     switch (call) {
     case 't':
     case 'l':
+    case 'w':
+    case 'v':
         return 2;
     case 'd':
         return 3;
@@ -79,8 +82,12 @@ static uint64_t answer_of(int call, const struct slice *s)
         return taksherub_decode(s[0].bytes, s[0].len, s[1].bytes, s[1].len, s[2].bytes, s[2].len);
     case 'p':
         return taksherub_plain(s[0].bytes, s[0].len, s[1].bytes, s[1].len, s[2].bytes, s[2].len, s[3].bytes, s[3].len);
-    default:
+    case 'l':
         return taksherub_listen(s[0].bytes, s[0].len, s[1].bytes, s[1].len);
+    case 'w':
+        return taksherub_write_vcd(s[0].bytes, s[0].len, s[1].bytes, s[1].len);
+    default:
+        return taksherub_read_vcd(s[0].bytes, s[0].len, s[1].bytes, s[1].len);
     }
 }
 

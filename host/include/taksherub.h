@@ -6,14 +6,14 @@
  * Every call answers 0 when done, else number * 65536 + index: the number of
  * the refusal and the index, from 0, of the record at fault. TAKSHERUB_NUMBER
  * and TAKSHERUB_INDEX take an answer apart. The index is 0 for refusals 1, 2,
- * 10 and 13.
+ * 10, 13 and 18.
  *
  * A refusal writes nothing. Success writes the whole result from the output's
  * start; the bytes behind it stay as they were.
  *
  * The first refusal that holds is given, in this order: board, list or steps
- * or capture, events, 13, 10. In a file: 1, then 2, then the records in order,
- * each checked by rising number.
+ * or capture or text, events, log, 10. In a file: 1, then 2, then the records in
+ * order, each checked by rising number.
  *
  *     board   1  length is no whole number of 134-byte records
  *             2  more than 32 records
@@ -34,7 +34,10 @@
  *             2  more than 256 records
  *             8  code not 1 to 7, or address not on the board
  *             9  clock below the one before it, or past the last clock
- *     log    13  length is not 325 times the list's record count
+ *     log     1  length is no whole number of 5-byte records (write_vcd)
+ *             2  more than 4160 records (write_vcd)
+ *            13  length is not 325 times the list's record count (decode)
+ *     text   18  none that write_vcd writes
  *     output 10  shorter than the full result
  *
  * A pointer is never null, not even with length 0, and points to as many bytes
@@ -59,12 +62,16 @@
 #define TAKSHERUB_CLOCKS 65 /* clocks, and so steps, of a transaction */
 #define TAKSHERUB_LOG_PART (TAKSHERUB_CLOCKS * TAKSHERUB_LOG_RECORD)
 
-/* The most clocks of a run or a capture. */
+/* The most clocks of a run, a capture or a waveform. */
 #define TAKSHERUB_MOST_CLOCKS 4160
 
 /* The most records that taksherub_listen finds: frames of 32 bits after 32
  * ones each, with no idle clock. One more than a list can have. */
 #define TAKSHERUB_MOST_RECORDS 65
+
+/* The longest text of taksherub_write_vcd, in bytes: that of 4160 clocks, in
+ * each of which all three signals change. */
+#define TAKSHERUB_MOST_VCD 61538
 
 #ifdef __cplusplus
 extern "C" {
@@ -124,6 +131,32 @@ uint64_t taksherub_plain(const uint8_t *board, size_t board_len,
  * Refusals in order: the capture's 2, then 16 by byte; 10. */
 uint64_t taksherub_listen(const uint8_t *levels, size_t levels_len,
                           uint8_t *answers, size_t answers_len);
+
+/* Writes a log as a waveform: the text of a Value Change Dump (IEEE 1364), which
+ * viewers of signals read. It shows three signals, each by a flag of the log's
+ * records: level (1), enable (2), the station's, and contention (4). The rest of
+ * a record does not count.
+ * Result: the text, at most TAKSHERUB_MOST_VCD bytes. Behind a header that is
+ * always the same stand the values of clock 1; then, for each clock in which a
+ * signal changes, the clock's number as time and the new values; then the
+ * closing time, one past the last clock. An empty log gives the header and
+ * closing time 1. Every line ends with a newline, the last too.
+ * The call does not say how long the text is. Where you do not know, fill the
+ * output with 0 before, which is in no text: one of TAKSHERUB_MOST_VCD + 1 bytes
+ * then holds a string of C.
+ * Refusals in order: the log's 1, 2; 10. */
+uint64_t taksherub_write_vcd(const uint8_t *log, size_t log_len,
+                             uint8_t *text, size_t text_len);
+
+/* Reads a text of taksherub_write_vcd back. It reads no other waveform, not even
+ * one that says the same in another way.
+ * Result: a byte for each clock, the flags 1, 2 and 4 as in a log record: at
+ * most TAKSHERUB_MOST_CLOCKS of them. The call does not say how many. Where you
+ * do not know, fill the output with 255 before, which is no such byte: the
+ * clocks end where a byte is still 255.
+ * Refusals in order: the text's 18; 10. */
+uint64_t taksherub_read_vcd(const uint8_t *text, size_t text_len,
+                            uint8_t *flags, size_t flags_len);
 
 #ifdef __cplusplus
 }

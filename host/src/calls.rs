@@ -1,8 +1,9 @@
-//! The five calls of the door as a table of functions, so that any two builds of them can be held against each other.
+//! The seven calls of the door as a table of functions, so that any two builds of them can be held against each other.
 
 use crate::model::listener::heard;
-use crate::model::records::{Transaction, ANSWER_RECORD, LIST_RECORD, LOG_RECORD};
-use crate::model::{self, Board, Refusal};
+use crate::model::records::*;
+use crate::model::waveform::{flags_in, waveform, MOST_TEXT};
+use crate::model::{self, Board};
 
 pub type Answer = Result<(), Refusal>;
 
@@ -16,6 +17,8 @@ pub struct Calls {
     pub decode: fn(list: &[u8], log: &[u8], answers: &mut [u8]) -> Answer,
     pub plain: Machine,
     pub listen: fn(capture: &[u8], answers: &mut [u8]) -> Answer,
+    pub write_vcd: fn(log: &[u8], text: &mut [u8]) -> Answer,
+    pub read_vcd: fn(text: &[u8], flags: &mut [u8]) -> Answer,
 }
 
 /// The independent model.
@@ -25,6 +28,8 @@ pub const MODEL: Calls = Calls {
     decode: model::decode,
     plain: |board, list, events, answers| model::plain(&mut Board::load(board)?, list, events, answers),
     listen: model::listen,
+    write_vcd: model::write_vcd,
+    read_vcd: model::read_vcd,
 };
 
 /// The files of one call, those it does not take unused, and the length of its output.
@@ -36,6 +41,7 @@ pub struct Input {
     pub events: Vec<u8>,
     pub log: Vec<u8>,
     pub capture: Vec<u8>,
+    pub text: Vec<u8>,
     pub room: usize,
 }
 
@@ -46,10 +52,25 @@ pub enum Call {
     Decode,
     Plain,
     Listen,
+    WriteVcd,
+    ReadVcd,
 }
 
 impl Call {
-    pub const ALL: [Call; 5] = [Call::Translate, Call::Run, Call::Decode, Call::Plain, Call::Listen];
+    pub const ALL: [Call; 7] = [Call::Translate, Call::Run, Call::Decode, Call::Plain, Call::Listen, Call::WriteVcd, Call::ReadVcd];
+
+    /// Its name in `include/taksherub.h`.
+    pub fn name(self) -> &'static str {
+        match self {
+            Call::Translate => "translate",
+            Call::Run => "run",
+            Call::Decode => "decode",
+            Call::Plain => "plain",
+            Call::Listen => "listen",
+            Call::WriteVcd => "write_vcd",
+            Call::ReadVcd => "read_vcd",
+        }
+    }
 
     /// The bytes of the full result, if the input is good.
     pub fn full_size(self, input: &Input) -> usize {
@@ -59,6 +80,19 @@ impl Call {
             Call::Run => input.steps.len() * LOG_RECORD,
             Call::Decode | Call::Plain => transactions * ANSWER_RECORD,
             Call::Listen => heard(&input.capture).count() * ANSWER_RECORD,
+            Call::WriteVcd => waveform(input.log.as_chunks().0).len(),
+            Call::ReadVcd => flags_in(&input.text).map_or(0, |flags| flags.len()),
+        }
+    }
+
+    /// The bytes of the longest result.
+    pub fn most_size(self) -> usize {
+        match self {
+            Call::Translate | Call::ReadVcd => MOST_STEPS,
+            Call::Run => MOST_STEPS * LOG_RECORD,
+            Call::Decode | Call::Plain => MOST_TRANSACTIONS * ANSWER_RECORD,
+            Call::Listen => MOST_HEARD * ANSWER_RECORD,
+            Call::WriteVcd => MOST_TEXT,
         }
     }
 
@@ -71,13 +105,15 @@ impl Call {
     }
 
     pub fn answer(self, calls: &Calls, input: &Input, output: &mut [u8]) -> Answer {
-        let Input { board, list, steps, events, log, capture, .. } = input;
+        let Input { board, list, steps, events, log, capture, text, .. } = input;
         match self {
             Call::Translate => (calls.translate)(list, output),
             Call::Run => (calls.run)(board, steps, events, output),
             Call::Decode => (calls.decode)(list, log, output),
             Call::Plain => (calls.plain)(board, list, events, output),
             Call::Listen => (calls.listen)(capture, output),
+            Call::WriteVcd => (calls.write_vcd)(log, output),
+            Call::ReadVcd => (calls.read_vcd)(text, output),
         }
     }
 }

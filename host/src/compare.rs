@@ -1,4 +1,4 @@
-//! Two builds of the five calls on the same inputs: the same answer and the same bytes, past the result and after a refusal too.
+//! Two builds of the seven calls on the same inputs: the same answer and the same bytes, past the result and after a refusal too.
 
 use crate::calls::{Answer, Call, Calls, Input};
 use crate::generate;
@@ -47,14 +47,22 @@ pub fn compare(call: Call, left: &Calls, right: &Calls, input: &Input) -> Result
 
 /// The input's files in hex digits, so that a difference can be tried again by hand.
 fn describe(input: &Input) -> String {
-    let Input { board, list, steps, events, log, capture, room } = input;
-    let mut text = format!("output of {room} bytes");
-    let files = [("board", board), ("list", list), ("steps", steps), ("events", events), ("log", log), ("capture", capture)];
+    let Input { board, list, steps, events, log, capture, text, room } = input;
+    let files = [
+        ("board", board),
+        ("list", list),
+        ("steps", steps),
+        ("events", events),
+        ("log", log),
+        ("capture", capture),
+        ("text", text),
+    ];
+    let mut lines = format!("output of {room} bytes");
     for (name, file) in files {
         let digits: String = file.iter().map(|byte| format!("{byte:02x}")).collect();
-        text += &format!("\n{name}, {} bytes: {digits}", file.len());
+        lines += &format!("\n{name}, {} bytes: {digits}", file.len());
     }
-    text
+    lines
 }
 
 /// What a refusal found fault with.
@@ -66,19 +74,24 @@ pub enum Part {
     Events,
     Log,
     Capture,
+    Text,
     Output,
 }
 
-/// The numbers that each part can be refused by.
-const NUMBERS: [(Part, &[u8]); 7] = [
-    (Part::Board, &[1, 2, 3, 4, 5, 6]),
-    (Part::List, &[1, 2, 3, 7]),
-    (Part::Steps, &[2, 11]),
-    (Part::Events, &[1, 2, 8, 9]),
-    (Part::Log, &[13]),
-    (Part::Capture, &[2, 16]),
-    (Part::Output, &[10]),
-];
+/// The numbers that a call can refuse a part by.
+fn numbers(call: Call, part: Part) -> &'static [u8] {
+    match part {
+        Part::Board => &[1, 2, 3, 4, 5, 6],
+        Part::List => &[1, 2, 3, 7],
+        Part::Steps => &[2, 11],
+        Part::Events => &[1, 2, 8, 9],
+        Part::Log if call == Call::WriteVcd => &[1, 2],
+        Part::Log => &[13],
+        Part::Capture => &[2, 16],
+        Part::Text => &[18],
+        Part::Output => &[10],
+    }
+}
 
 fn parts(call: Call) -> &'static [Part] {
     match call {
@@ -87,12 +100,14 @@ fn parts(call: Call) -> &'static [Part] {
         Call::Decode => &[Part::List, Part::Log, Part::Output],
         Call::Plain => &[Part::Board, Part::List, Part::Events, Part::Output],
         Call::Listen => &[Part::Capture, Part::Output],
+        Call::WriteVcd => &[Part::Log, Part::Output],
+        Call::ReadVcd => &[Part::Text, Part::Output],
     }
 }
 
 /// Whether a refusal is of a whole part, and its index 0.
 fn of_the_whole(number: u8) -> bool {
-    matches!(number, Refusal::LENGTH | Refusal::TOO_MANY | Refusal::OUTPUT | Refusal::LOG_LENGTH)
+    matches!(number, Refusal::LENGTH | Refusal::TOO_MANY | Refusal::OUTPUT | Refusal::LOG_LENGTH | Refusal::TEXT)
 }
 
 /// The part at fault and its record count, by the order of the checks.
@@ -114,7 +129,7 @@ fn at_fault(call: Call, input: &Input, number: u8) -> (Part, usize) {
         Part::Steps => input.steps.len(),
         Part::Capture => input.capture.len(),
         Part::Events => input.events.len() / EVENT_RECORD,
-        Part::Log | Part::Output => 0,
+        Part::Log | Part::Text | Part::Output => 0,
     };
     (part, count)
 }
@@ -154,8 +169,7 @@ impl Tally {
 
     /// The refusals that this call can give.
     fn reachable(&self) -> impl Iterator<Item = (Part, u8)> + '_ {
-        let mine = NUMBERS.iter().filter(|(part, _)| parts(self.call).contains(part));
-        mine.flat_map(|(part, numbers)| numbers.iter().map(|number| (*part, *number)))
+        parts(self.call).iter().flat_map(|&part| numbers(self.call, part).iter().map(move |&number| (part, number)))
     }
 
     /// The reachable refusals that no input met, in words.
@@ -187,8 +201,8 @@ impl fmt::Display for Tally {
             *by_number.entry(number).or_default() += met.iter().sum::<usize>();
         }
         let refused: usize = by_number.values().sum();
-        let name = format!("{:?}", self.call).to_lowercase();
-        write!(f, "{name}: {} inputs, {} accepted; refused by number:", self.accepted + refused, self.accepted)?;
+        let (name, inputs) = (self.call.name(), self.accepted + refused);
+        write!(f, "{name}: {inputs} inputs, {} accepted; refused by number:", self.accepted)?;
         for (number, times) in by_number {
             write!(f, " {number}: {times},")?;
         }
@@ -209,14 +223,65 @@ impl fmt::Display for Tally {
     }
 }
 
-/// The limits and `count` generated inputs for each call. What was met, or the first difference, or what was never met.
-pub fn compare_all(left: &Calls, right: &Calls, count: usize) -> Result<Vec<Tally>, String> {
+/// What became of all texts that one kind of damage makes of some short ones.
+pub struct Damaged {
+    kind: &'static str,
+    read: usize,
+    refused: usize,
+}
+
+impl Damaged {
+    pub fn count(&self) -> usize {
+        self.read + self.refused
+    }
+}
+
+impl fmt::Display for Damaged {
+    fn fmt(&self, f: &mut fmt::Formatter) -> fmt::Result {
+        let Damaged { kind, read, refused } = self;
+        writeln!(f, "{}: {kind}: {} texts, {read} read and {refused} refused by 18", Call::ReadVcd.name(), self.count())
+    }
+}
+
+/// All these texts, each of which is read or refused by 18.
+fn compare_texts(left: &Calls, right: &Calls, kind: &'static str, texts: impl Iterator<Item = Vec<u8>>) -> Result<Damaged, String> {
+    let mut damaged = Damaged { kind, read: 0, refused: 0 };
+    for text in texts {
+        let mut input = Input { text, ..Input::default() };
+        input.room = Call::ReadVcd.full_size(&input) + GUARD;
+        match compare(Call::ReadVcd, left, right, &input)? {
+            Ok(()) => damaged.read += 1,
+            Err(Refusal { number: Refusal::TEXT, index: 0 }) => damaged.refused += 1,
+            Err(refusal) => return Err(format!("{kind}: both answer {refusal:?}\n{}", describe(&input))),
+        }
+    }
+    Ok(damaged)
+}
+
+fn compare_damaged(left: &Calls, right: &Calls) -> Result<Vec<Damaged>, String> {
+    Ok(vec![
+        compare_texts(left, right, "every prefix of four short texts", generate::prefixes())?,
+        compare_texts(left, right, "every change of one byte in them", generate::changes())?,
+        compare_texts(left, right, "a byte less or more in them", generate::bytes_less_or_more())?,
+    ])
+}
+
+/// What a comparison met.
+pub struct Met {
+    pub tallies: Vec<Tally>,
+    pub damaged: Vec<Damaged>,
+}
+
+/// The limits, all small damages of short texts, and `count` generated inputs for each call. What was met, or the first difference, or
+/// what was never met.
+pub fn compare_all(left: &Calls, right: &Calls, count: usize) -> Result<Met, String> {
     for generate::Limit { what, call, input, answer: expected } in generate::limits() {
         let answer = compare(call, left, right, &input)?;
         if answer != expected {
             return Err(format!("{call:?}: {what}: both answer {answer:?}, the document {expected:?}\n{}", describe(&input)));
         }
     }
+    let damaged = compare_damaged(left, right)?;
     let mut random = Random::new(SEED);
     let mut tallies = Call::ALL.map(Tally::new);
     for tally in &mut tallies {
@@ -228,7 +293,7 @@ pub fn compare_all(left: &Calls, right: &Calls, count: usize) -> Result<Vec<Tall
     }
     let missing: Vec<String> = tallies.iter().flat_map(Tally::missing).collect();
     if missing.is_empty() {
-        Ok(tallies.into())
+        Ok(Met { tallies: tallies.into(), damaged })
     } else {
         Err(missing.join("\n"))
     }
@@ -236,6 +301,8 @@ pub fn compare_all(left: &Calls, right: &Calls, count: usize) -> Result<Vec<Tall
 
 #[cfg(test)]
 mod tests {
+    mod waveforms;
+
     use super::*;
     use crate::calls::MODEL;
     use crate::model::follower::{Follower, PREAMBLE};
@@ -247,8 +314,8 @@ mod tests {
 
     #[test]
     fn the_model_agrees_with_itself_and_every_refusal_is_met() {
-        let tallies = compare_all(&MODEL, &MODEL, COUNT);
-        assert_eq!(tallies.map(|tallies| tallies.len()), Ok(5));
+        let met = compare_all(&MODEL, &MODEL, COUNT);
+        assert_eq!(met.map(|met| met.tallies.len()), Ok(7));
     }
 
     /// A build that is wrong on purpose must be caught, on either side.
@@ -266,6 +333,8 @@ mod tests {
         caught(Calls { run: refuse_all, ..MODEL });
         caught(Calls { plain: refuse_all, ..MODEL });
         caught(Calls { listen: |capture, answers| refuse_all(capture, &[], &[], answers), ..MODEL });
+        caught(Calls { write_vcd: |log, text| refuse_all(log, &[], &[], text), ..MODEL });
+        caught(Calls { read_vcd: |_, _| Err(Refusal::whole(Refusal::TEXT)), ..MODEL });
     }
 
     #[test]
@@ -273,6 +342,8 @@ mod tests {
         caught(Calls { translate: |list, steps| (MODEL.translate)(list, &mut steps.to_vec()), ..MODEL });
         caught(Calls { decode: |list, log, answers| (MODEL.decode)(list, log, &mut answers.to_vec()), ..MODEL });
         caught(Calls { listen: |capture, answers| (MODEL.listen)(capture, &mut answers.to_vec()), ..MODEL });
+        caught(Calls { write_vcd: |log, text| (MODEL.write_vcd)(log, &mut text.to_vec()), ..MODEL });
+        caught(Calls { read_vcd: |text, flags| (MODEL.read_vcd)(text, &mut flags.to_vec()), ..MODEL });
     }
 
     #[test]

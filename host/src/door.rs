@@ -6,12 +6,12 @@ use crate::model::Refusal;
 #[cfg(target_arch = "x86_64")]
 mod linked;
 #[cfg(target_arch = "x86_64")]
-pub use linked::{decode, listen, plain, run, translate};
+pub use linked::{decode, listen, plain, read_vcd, run, translate, write_vcd};
 
 #[cfg(not(target_arch = "x86_64"))]
 mod piped;
 #[cfg(not(target_arch = "x86_64"))]
-pub use piped::{decode, listen, plain, run, translate};
+pub use piped::{decode, listen, plain, read_vcd, run, translate, write_vcd};
 
 /// "0 when done, else number * 65536 + index".
 fn answer(code: u64) -> Answer {
@@ -22,4 +22,4 @@ fn answer(code: u64) -> Answer {
 }
 
 /// The proved code as a table.
-pub const DOOR: Calls = Calls { translate, run, decode, plain, listen };
+pub const DOOR: Calls = Calls { translate, run, decode, plain, listen, write_vcd, read_vcd };

@@ -1,8 +1,11 @@
-//! Inputs for the five calls: good ones of many kinds, damaged ones, and both sides of every limit.
+//! Inputs for the seven calls: good ones of many kinds, damaged ones, and both sides of every limit.
 
 mod captures;
+mod waveforms;
 
-use crate::calls::Call::{Decode, Listen, Plain, Run, Translate};
+pub use waveforms::{bytes_less_or_more, changes, prefixes};
+
+use crate::calls::Call::{Decode, Listen, Plain, ReadVcd, Run, Translate, WriteVcd};
 use crate::calls::{Answer, Call, Input};
 use crate::make::{self, board_p, event, phy, read};
 use crate::model::phy::{derived_control, status};
@@ -15,20 +18,24 @@ pub fn input(random: &mut Random, call: Call) -> Input {
     input.list = list(random, &input.board);
     input.steps = steps(random, &input);
     input.events = events(random, &input.board, call.last_clock(&input));
-    if call == Decode {
-        input.log = log(random, &input);
+    match call {
+        Decode => input.log = log(random, &input),
+        Listen => input.capture = captures::capture(random, &input),
+        WriteVcd => input.log = waveforms::log(random, &input),
+        ReadVcd => input.text = waveforms::text(random, &input),
+        Translate | Run | Plain => {}
     }
-    if call == Listen {
-        input.capture = captures::capture(random, &input);
-    }
+    let undamaged = call.full_size(&input);
     while random.one_in(2) {
         damage(random, call, &mut input);
     }
     let full = call.full_size(&input);
-    input.room = match random.below(8) {
-        0 => full.saturating_sub(1),
-        1 => random.below(full + 1),
-        2 | 3 => full + random.below(40),
+    input.room = match random.below(32) {
+        0..4 => full.saturating_sub(1),
+        4..8 => random.below(full + 1),
+        8..16 => full + random.below(40),
+        16..20 => undamaged,
+        20 => call.most_size(),
         _ => full,
     };
     input
@@ -229,6 +236,9 @@ fn damage(random: &mut Random, call: Call, input: &mut Input) {
         (Run, _) => damage_clocks(random, &mut input.steps, 2, &[4, 5, 0x80, 0xFF]),
         (Listen, _) => damage_clocks(random, &mut input.capture, 1, &[2, 3, 0x80, 0xFF]),
         (Decode, 0) => damage_log(random, &mut input.log),
+        (WriteVcd, 0) => damage_count(random, &mut input.log, LOG_RECORD, MOST_STEPS),
+        (WriteVcd, _) => damage_length(random, &mut input.log, LOG_RECORD),
+        (ReadVcd, _) => waveforms::damage(random, &mut input.text),
         _ => damage_list(random, &mut input.list),
     }
 }
@@ -385,17 +395,17 @@ pub struct Limit {
 /// Both sides of every limit.
 pub fn limits() -> Vec<Limit> {
     let parts = [counts_of_the_list(), counts_of_board_and_events(), steps_and_log(), addresses(), last_clocks(), rooms()];
-    parts.into_iter().flatten().chain(captures::limits()).collect()
+    parts.into_iter().flatten().chain(captures::limits()).chain(waveforms::limits()).collect()
 }
 
 fn refused(number: u8, index: usize) -> Answer {
     Err(Refusal { number, index })
 }
 
-/// Board P, one read, and a capture of one write, which the limits change in one place.
+/// Board P, one read, a capture of one write and a short text, which the limits change in one place.
 fn good() -> Input {
-    let (list, capture) = (read(1, 1).to_vec(), captures::one_write());
-    Input { board: board_p(), list, steps: vec![1; 65], log: vec![1; 325], capture, ..Input::default() }
+    let (list, capture, text) = (read(1, 1).to_vec(), captures::one_write(), waveforms::one_clock());
+    Input { board: board_p(), list, steps: vec![1; 65], log: vec![1; 325], capture, text, ..Input::default() }
 }
 
 /// The same input for some calls, with output for the full result.

@@ -34,6 +34,8 @@ extern "C" {
         answers_len: usize,
     ) -> u64;
     fn taksherub_listen(levels: *const u8, levels_len: usize, answers: *mut u8, answers_len: usize) -> u64;
+    fn taksherub_write_vcd(log: *const u8, log_len: usize, text: *mut u8, text_len: usize) -> u64;
+    fn taksherub_read_vcd(text: *const u8, text_len: usize, flags: *mut u8, flags_len: usize) -> u64;
 }
 
 // Every slice below is lent for the call alone, and an output overlaps no input: that is all the door asks of its caller.
@@ -78,4 +80,12 @@ pub fn plain(board: &[u8], list: &[u8], events: &[u8], answers: &mut [u8]) -> An
 
 pub fn listen(capture: &[u8], answers: &mut [u8]) -> Answer {
     answer(unsafe { taksherub_listen(capture.as_ptr(), capture.len(), answers.as_mut_ptr(), answers.len()) })
+}
+
+pub fn write_vcd(log: &[u8], text: &mut [u8]) -> Answer {
+    answer(unsafe { taksherub_write_vcd(log.as_ptr(), log.len(), text.as_mut_ptr(), text.len()) })
+}
+
+pub fn read_vcd(text: &[u8], flags: &mut [u8]) -> Answer {
+    answer(unsafe { taksherub_read_vcd(text.as_ptr(), text.len(), flags.as_mut_ptr(), flags.len()) })
 }

@@ -62,3 +62,11 @@ pub fn plain(board: &[u8], list: &[u8], events: &[u8], answers: &mut [u8]) -> An
 pub fn listen(capture: &[u8], answers: &mut [u8]) -> Answer {
     ask(b'l', &[capture], answers)
 }
+
+pub fn write_vcd(log: &[u8], text: &mut [u8]) -> Answer {
+    ask(b'w', &[log], text)
+}
+
+pub fn read_vcd(text: &[u8], flags: &mut [u8]) -> Answer {
+    ask(b'v', &[text], flags)
+}

@@ -114,15 +114,17 @@ fn only_changes(moments: &[Moment], signal: usize) -> bool {
 fn good_moments(text: &[u8]) -> Option<Vec<Moment>> {
     let moments = moments(text.strip_prefix(HEADER.as_bytes())?)?;
     let (closing, clocks) = moments.split_last()?;
-    let good = moments[0].time == 1
-        && moments.is_sorted_by(|earlier, later| earlier.time < later.time)
-        && closing.time <= MOST_STEPS + 1
-        && closing.values.is_empty()
-        && clocks.iter().all(|moment| !moment.values.is_empty())
-        && clocks.first().is_none_or(|first| first.values.len() == SIGNALS.len())
-        && clocks.iter().all(|moment| moment.values.is_sorted_by(|(one, _), (next, _)| one < next))
-        && (0..SIGNALS.len()).all(|signal| only_changes(clocks, signal));
-    good.then_some(moments)
+    let rules = [
+        moments[0].time == 1,
+        moments.is_sorted_by(|earlier, later| earlier.time < later.time),
+        closing.time <= MOST_STEPS + 1,
+        closing.values.is_empty(),
+        clocks.iter().all(|moment| !moment.values.is_empty()),
+        clocks.first().is_none_or(|first| first.values.len() == SIGNALS.len()),
+        clocks.iter().all(|moment| moment.values.is_sorted_by(|(one, _), (next, _)| one < next)),
+        (0..SIGNALS.len()).all(|signal| only_changes(clocks, signal)),
+    ];
+    rules.into_iter().all(|kept| kept).then_some(moments)
 }
 
 /// "Reading our own text back gives one byte per clock, the three signals as flags 1, 2, 4." None for a text that is not ours.
