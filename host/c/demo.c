@@ -1,6 +1,7 @@
 /* The example of document 01 through the door: by the wire, without one, and
  * read back from the wire's levels. Prints the three lines of each, and fails
- * if they differ from the document's. */
+ * if they differ from the document's. Then the wire as a waveform: prints where
+ * its text begins, and fails if it does not read back as the log's flags. */
 #include "taksherub.h"
 
 #include <stdio.h>
@@ -73,8 +74,53 @@ static int reads_back(const uint8_t *levels, const uint8_t *answers)
     return shows("read back", back) && memcmp(back, answers, sizeof list) == 0;
 }
 
+/* How the waveform begins. The station drives ones for 32 clocks, then the start
+ * 01; a level that stays has no line. */
+static const char beginning[] =
+    "$version Taksherub $end\n"
+    "$comment MDIO wire, one time unit for each clock $end\n"
+    "$timescale 1 us $end\n"
+    "$scope module mdio $end\n"
+    "$var wire 1 L level $end\n"
+    "$var wire 1 E enable $end\n"
+    "$var wire 1 C contention $end\n"
+    "$upscope $end\n"
+    "$enddefinitions $end\n"
+    "#1\n1L\n1E\n0C\n"
+    "#33\n0L\n"
+    "#34\n1L\n";
+
+/* Its last line: the time one past the last of 195 clocks. */
+static const char closing[] = "#196\n";
+
+/* Whether a log's waveform begins and ends as it should. The text is a string,
+ * for the output is all zeros before the call, and there is room for one more
+ * than the longest text. */
+static int draws(const uint8_t *log, char *text)
+{
+    if (!done("write_vcd", taksherub_write_vcd(log, LOG, (uint8_t *)text, TAKSHERUB_MOST_VCD)))
+        return 0;
+    size_t len = strlen(text), first = strlen(beginning), last = strlen(closing);
+    printf("as a waveform: %u bytes, beginning\n%.*s", (unsigned)len, (int)first, text);
+    return len > first + last && memcmp(text, beginning, first) == 0 && strcmp(text + len - last, closing) == 0;
+}
+
+/* Whether a waveform reads back as the flags of its log, and as no more. */
+static int shows_flags(const char *text, const uint8_t *log)
+{
+    uint8_t flags[STEPS + 1];
+    memset(flags, 255, sizeof flags);
+    if (!done("read_vcd", taksherub_read_vcd((const uint8_t *)text, strlen(text), flags, sizeof flags)))
+        return 0;
+    for (int clock = 0; clock < STEPS; clock++)
+        if (flags[clock] != log[clock * TAKSHERUB_LOG_RECORD])
+            return 0;
+    return flags[STEPS] == 255;
+}
+
 int main(void)
 {
+    static char text[TAKSHERUB_MOST_VCD + 1];
     uint8_t steps[STEPS], log[LOG], levels[STEPS], wired[sizeof list], plainly[sizeof list];
     int good = done("translate", taksherub_translate(list, sizeof list, steps, sizeof steps))
             && done("run", taksherub_run(board, sizeof board, steps, sizeof steps, events, sizeof events, log, sizeof log))
@@ -86,5 +132,6 @@ int main(void)
     int without = shows("without a wire", plainly);
     capture(log, levels);
     int back = reads_back(levels, wired);
-    return by_wire && without && back ? 0 : 1;
+    int waveform = draws(log, text) && shows_flags(text, log);
+    return by_wire && without && back && waveform ? 0 : 1;
 }
