@@ -10,3 +10,4 @@ pub mod generate;
 pub mod make;
 pub mod model;
 pub mod random;
+pub mod tray;

@@ -8,9 +8,11 @@ use taksherub_host::generate;
 use taksherub_host::make::{board_p, capture, levels, log, read, steps, write};
 use taksherub_host::model::follower::{Follower, Whole, PREAMBLE};
 use taksherub_host::model::listener::heard;
+use taksherub_host::model::waveform::{flags_in, waveform};
 use taksherub_host::model::wire::{CONTENTION, STATION};
 use taksherub_host::model::{decode, listen, program, read_back, run, Board};
 use taksherub_host::random::Random;
+use taksherub_host::tray;
 
 /// Inputs that the plain machine takes, out of so many, and its answers.
 fn good_inputs(seed: u64, count: usize) -> Vec<(Input, Vec<u8>)> {
@@ -90,6 +92,49 @@ fn generated_captures_are_rich() {
     assert!(foreign > 1_000 && other_frames - foreign > 500);
 }
 
+/// What a log's waveform has to read back as.
+fn flags_of(log: &[u8]) -> Vec<u8> {
+    log.iter().step_by(5).map(|flags| flags & 7).collect()
+}
+
+/// The text of a log reads back as its flags, if the log is not too long.
+#[test]
+fn a_waveform_reads_back() {
+    let mut random = Random::new(8);
+    let (mut longest, mut too_long) = (0, 0);
+    for _ in 0..3_000 {
+        let log = generate::input(&mut random, Call::WriteVcd).log;
+        let records = log.as_chunks().0;
+        let expected = if records.len() > 4160 { None } else { Some(flags_of(records.as_flattened())) };
+        longest += usize::from(records.len() == 4160);
+        too_long += usize::from(expected.is_none());
+        assert_eq!(flags_in(waveform(records).as_bytes()), expected);
+    }
+    println!("{longest} logs of the most clocks, {too_long} of more");
+    assert!(longest > 10 && too_long > 100);
+}
+
+/// "18 exactly if the text is none that the writer writes": what is read, written again, is the text itself. Damaged texts are read
+/// too, as other logs than before.
+#[test]
+fn what_is_read_is_written_again() {
+    let mut random = Random::new(9);
+    let generated = (0..10_000).map(|_| generate::input(&mut random, Call::ReadVcd).text);
+    let texts = generated.chain(generate::prefixes()).chain(generate::changes()).chain(generate::bytes_less_or_more());
+    let (mut read, mut refused) = (0, 0);
+    for text in texts {
+        let Some(flags) = flags_in(&text) else {
+            refused += 1;
+            continue;
+        };
+        let log: Vec<[u8; 5]> = flags.iter().map(|&flags| [flags, 0, 0, 0, 0]).collect();
+        assert_eq!(waveform(&log).into_bytes(), text);
+        read += 1;
+    }
+    println!("{read} texts read, {refused} refused");
+    assert!(read > 3_000 && refused > 3_000);
+}
+
 /// The generated runs show answers and contention. Two PHYs never drive at once, whatever the steps: from a fresh load all that are
 /// inside a frame are inside the same one, since a PHY that wants 32 ones starts only where one that wants a single 1 starts too.
 #[test]
@@ -143,9 +188,26 @@ fn examples_print_what_is_expected() {
 #[test]
 fn the_example_capture_is_that_of_the_tray() {
     let file = |name: &str| fs::read(examples().join(name)).unwrap();
-    let log = log(&file("tray-40/board.rec"), &steps(&file("tray-40/list.rec")), &file("tray-40/events.rec"));
-    assert_eq!(file("capture-40/capture.rec"), capture(&log));
+    let run = tray::run(&examples().join("tray-40")).unwrap();
+    assert_eq!(file("capture-40/capture.rec"), capture(&run.log));
     assert_eq!(file("capture-40/expected"), file("tray-40/expected"));
+}
+
+/// The waveforms among the examples are those of the trays that run, and read back as the flags of their logs.
+#[test]
+fn the_example_waveforms_are_those_of_the_trays() {
+    let paths = || fs::read_dir(examples()).unwrap().map(|entry| entry.unwrap().path());
+    let mut trays = 0;
+    for folder in paths().filter(|path| path.join("list.rec").exists()) {
+        if let Ok(run) = tray::run(&folder) {
+            trays += 1;
+            let stored = fs::read(folder.with_extension("vcd")).unwrap();
+            assert_eq!(stored, waveform(run.log.as_chunks().0).into_bytes(), "{}", folder.display());
+            assert_eq!(flags_in(&stored), Some(flags_of(&run.log)), "{}", folder.display());
+        }
+    }
+    let stored = paths().filter(|path| path.extension().is_some_and(|ending| ending == "vcd")).count();
+    assert!(trays >= 5 && stored == trays, "{trays} trays that run, {stored} waveforms");
 }
 
 /// The drawings of docs/BENCH.md are the wire's.

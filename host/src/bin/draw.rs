@@ -1,11 +1,12 @@
 //! Draws the transactions of a tray, clock by clock: `draw FOLDER [ORDINAL]`.
 
 use std::process::ExitCode;
-use std::{env, fs, path::Path};
+use std::{env, path::Path};
 use taksherub_host::draw::draw;
 use taksherub_host::model::program::lines;
 use taksherub_host::model::records::{Transaction, ANSWER_RECORD, LIST_RECORD, LOG_RECORD};
-use taksherub_host::model::{decode, run, translate, Board, Refusal};
+use taksherub_host::model::{decode, Refusal};
+use taksherub_host::tray::{self, Run};
 
 fn main() -> ExitCode {
     let arguments: Vec<String> = env::args().skip(1).collect();
@@ -33,15 +34,8 @@ fn main() -> ExitCode {
 
 /// The line that the program prints for each transaction, and its drawing.
 fn drawings(folder: &Path) -> Result<Vec<String>, Refusal> {
-    let file = |name: &str| fs::read(folder.join(name)).unwrap_or_default();
-    let list = file("list.rec");
-    let count = list.len() / LIST_RECORD;
-    let mut steps = vec![0; count * Transaction::CLOCKS];
-    let mut log = vec![0; steps.len() * LOG_RECORD];
-    let mut answers = vec![0; count * ANSWER_RECORD];
-    let mut board = Board::load(&file("board.rec"))?;
-    translate(&list, &mut steps)?;
-    run(&mut board, &steps, &file("events.rec"), &mut log)?;
+    let Run { list, steps, log } = tray::run(folder)?;
+    let mut answers = vec![0; list.len() / LIST_RECORD * ANSWER_RECORD];
     decode(&list, &log, &mut answers)?;
     let parts = steps.chunks(Transaction::CLOCKS).zip(log.chunks(Transaction::CLOCKS * LOG_RECORD));
     Ok(lines(&answers).lines().zip(parts).map(|(line, (steps, log))| format!("{line}\n{}", draw(steps, log))).collect())

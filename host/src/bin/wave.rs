@@ -1,0 +1,25 @@
+//! Prints the waveform of a tray's run: `wave FOLDER`.
+
+use std::process::ExitCode;
+use std::{env, path::Path};
+use taksherub_host::model::waveform::waveform;
+use taksherub_host::model::Refusal;
+use taksherub_host::tray;
+
+fn main() -> ExitCode {
+    let arguments: Vec<String> = env::args().skip(1).collect();
+    let [folder] = arguments.as_slice() else {
+        eprintln!("usage: wave FOLDER, with board.rec, list.rec and events.rec");
+        return ExitCode::from(2);
+    };
+    match tray::run(Path::new(folder)) {
+        Ok(run) => {
+            print!("{}", waveform(run.log.as_chunks().0));
+            ExitCode::SUCCESS
+        }
+        Err(Refusal { number, index }) => {
+            eprintln!("refused {number} at index {index}");
+            ExitCode::FAILURE
+        }
+    }
+}
