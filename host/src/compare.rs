@@ -223,6 +223,9 @@ impl fmt::Display for Tally {
     }
 }
 
+/// Room beyond what a damaged text needs, where a build that takes it for another one would write.
+const SPARE: usize = 16;
+
 /// What became of all texts that one kind of damage makes of some short ones.
 pub struct Damaged {
     kind: &'static str,
@@ -248,7 +251,7 @@ fn compare_texts(left: &Calls, right: &Calls, kind: &'static str, texts: impl It
     let mut damaged = Damaged { kind, read: 0, refused: 0 };
     for text in texts {
         let mut input = Input { text, ..Input::default() };
-        input.room = Call::ReadVcd.full_size(&input) + GUARD;
+        input.room = Call::ReadVcd.full_size(&input) + SPARE;
         match compare(Call::ReadVcd, left, right, &input)? {
             Ok(()) => damaged.read += 1,
             Err(Refusal { number: Refusal::TEXT, index: 0 }) => damaged.refused += 1,

@@ -4,6 +4,7 @@ use crate::model::records::{Transaction, LIST_RECORD, LOG_RECORD};
 use crate::model::{self, translate, Board, Refusal};
 use std::fs;
 use std::path::Path;
+use std::process::ExitCode;
 
 pub struct Run {
     pub list: Vec<u8>,
@@ -21,4 +22,18 @@ pub fn run(folder: &Path) -> Result<Run, Refusal> {
     translate(&list, &mut steps)?;
     model::run(&mut board, &steps, &file("events.rec"), &mut log)?;
     Ok(Run { list, steps, log })
+}
+
+/// Prints what a program made of a tray, or says how the tray was refused.
+pub fn print(made: Result<String, Refusal>) -> ExitCode {
+    match made {
+        Ok(text) => {
+            print!("{text}");
+            ExitCode::SUCCESS
+        }
+        Err(Refusal { number, index }) => {
+            eprintln!("refused {number} at index {index}");
+            ExitCode::FAILURE
+        }
+    }
 }

@@ -18,18 +18,10 @@ fn main() -> ExitCode {
             return ExitCode::from(2);
         }
     };
-    match drawings(Path::new(folder)) {
-        Ok(drawings) => {
-            let chosen =
-                drawings.iter().enumerate().filter(|(before, _)| wanted.is_none_or(|ordinal: usize| ordinal == before + 1));
-            chosen.for_each(|(_, drawing)| println!("{drawing}"));
-            ExitCode::SUCCESS
-        }
-        Err(Refusal { number, index }) => {
-            eprintln!("refused {number} at index {index}");
-            ExitCode::FAILURE
-        }
-    }
+    tray::print(drawings(Path::new(folder)).map(|drawings| {
+        let chosen = drawings.iter().enumerate().filter(|(before, _)| wanted.is_none_or(|ordinal: usize| ordinal == before + 1));
+        chosen.map(|(_, drawing)| format!("{drawing}\n")).collect()
+    }))
 }
 
 /// The line that the program prints for each transaction, and its drawing.

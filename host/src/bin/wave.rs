@@ -3,7 +3,6 @@
 use std::process::ExitCode;
 use std::{env, path::Path};
 use taksherub_host::model::waveform::waveform;
-use taksherub_host::model::Refusal;
 use taksherub_host::tray;
 
 fn main() -> ExitCode {
@@ -12,14 +11,5 @@ fn main() -> ExitCode {
         eprintln!("usage: wave FOLDER, with board.rec, list.rec and events.rec");
         return ExitCode::from(2);
     };
-    match tray::run(Path::new(folder)) {
-        Ok(run) => {
-            print!("{}", waveform(run.log.as_chunks().0));
-            ExitCode::SUCCESS
-        }
-        Err(Refusal { number, index }) => {
-            eprintln!("refused {number} at index {index}");
-            ExitCode::FAILURE
-        }
-    }
+    tray::print(tray::run(Path::new(folder)).map(|run| waveform(run.log.as_chunks().0)))
 }

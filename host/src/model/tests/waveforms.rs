@@ -24,54 +24,22 @@ fn log(flags: &[u8]) -> Vec<u8> {
     flags.iter().enumerate().flat_map(|(clock, &flags)| [flags, clock as u8, 0xFF, 0x80, 7]).collect()
 }
 
-/// Holds a log's text to the one wanted, and what is read back from that to the log's flags 1, 2 and 4.
-fn is_written(flags: &[u8], wanted: &[u8]) {
-    gives(wanted, |text| write_vcd(&log(flags), text));
-    let shown: Vec<u8> = flags.iter().map(|flags| flags & 7).collect();
-    gives(&shown, |flags| read_vcd(wanted, flags));
-}
-
-/// The same of the lines behind the header.
+/// Holds a log's text to the lines wanted behind the header, and what is read back from it to the log's flags 1, 2 and 4.
 fn shows(flags: &[u8], lines: &str) {
-    is_written(flags, &text(lines));
+    gives(&text(lines), |text| write_vcd(&log(flags), text));
+    let shown: Vec<u8> = flags.iter().map(|flags| flags & 7).collect();
+    gives(&shown, |flags| read_vcd(&text(lines), flags));
 }
 
 #[test]
 fn an_empty_log_gives_the_header_and_closing_time_1() {
-    is_written(
-        &[],
-        b"$version Taksherub $end\n\
-        $comment MDIO wire, one time unit for each clock $end\n\
-        $timescale 1 us $end\n\
-        $scope module mdio $end\n\
-        $var wire 1 L level $end\n\
-        $var wire 1 E enable $end\n\
-        $var wire 1 C contention $end\n\
-        $upscope $end\n\
-        $enddefinitions $end\n\
-        #1\n",
-    );
+    shows(&[], "#1\n");
 }
 
 #[test]
 fn a_few_clocks_with_and_without_changes() {
-    is_written(
-        &[3, 3, 2, 6, 6, 1],
-        b"$version Taksherub $end\n\
-        $comment MDIO wire, one time unit for each clock $end\n\
-        $timescale 1 us $end\n\
-        $scope module mdio $end\n\
-        $var wire 1 L level $end\n\
-        $var wire 1 E enable $end\n\
-        $var wire 1 C contention $end\n\
-        $upscope $end\n\
-        $enddefinitions $end\n\
-        #1\n1L\n1E\n0C\n\
-        #3\n0L\n\
-        #4\n1C\n\
-        #6\n1L\n0E\n0C\n\
-        #7\n",
-    );
+    shows(&[3, 3, 2, 6, 6, 1], "#1\n1L\n1E\n0C\n#3\n0L\n#4\n1C\n#6\n1L\n0E\n0C\n#7\n");
+    shows(&[1, 1, 1, 1, 3, 3, 7, 4, 4], "#1\n1L\n0E\n0C\n#5\n1E\n#7\n1C\n#8\n0L\n0E\n#10\n");
 }
 
 #[test]
@@ -127,13 +95,13 @@ fn times_of_one_to_four_digits() {
 
 #[test]
 fn the_longest_text() {
-    let flags: Vec<u8> = (0..4160).map(|before| if before % 2 == 0 { 7 } else { 0 }).collect();
+    let flags: Vec<u8> = (1..=4160).map(|clock| if clock % 2 == 1 { 7 } else { 0 }).collect();
     let values = |clock| if clock % 2 == 1 { "1L\n1E\n1C\n" } else { "0L\n0E\n0C\n" };
     let lines: String = (1..=4160).map(|clock| format!("#{clock}\n{}", values(clock))).collect();
-    let longest = text(&(lines + "#4161\n"));
-    assert_eq!(longest.len(), 61_538);
-    assert_eq!(longest.len(), MOST_TEXT);
-    is_written(&flags, &longest);
+    let lines = lines + "#4161\n";
+    assert_eq!((HEADER.len(), text(&lines).len()), (239, 61_538));
+    assert_eq!(MOST_TEXT, 61_538);
+    shows(&flags, &lines);
 }
 
 #[test]
