@@ -1,7 +1,7 @@
 //! Records from values, steps from records, logs and captures, for tests and measurements.
 
 use crate::calls::MODEL;
-use crate::model::records::{Transaction, LIST_RECORD, LOG_RECORD};
+use crate::model::records::{Transaction, LIST_RECORD, LOG_RECORD, MOST_STEPS};
 use crate::model::translate;
 use crate::model::wire::LEVEL;
 
@@ -53,6 +53,16 @@ pub fn log(board: &[u8], steps: &[u8], events: &[u8]) -> Vec<u8> {
     let mut log = vec![0; steps.len() * LOG_RECORD];
     (MODEL.run)(board, steps, events, &mut log).expect("board, steps and events are good");
     log
+}
+
+/// A log with these flags, in which no PHY drives.
+pub fn log_of(flags: &[u8]) -> Vec<u8> {
+    flags.iter().flat_map(|&flags| [flags, 0, 0, 0, 0]).collect()
+}
+
+/// The log with the longest waveform: every signal changes in every clock, of which there are the most.
+pub fn busiest_log() -> Vec<u8> {
+    log_of(&[7, 0].repeat(MOST_STEPS / 2))
 }
 
 /// What the analyser saves of a run: the level of each clock in its log.

@@ -5,7 +5,7 @@ use std::path::{Path, PathBuf};
 use taksherub_host::calls::{Call, Input, MODEL};
 use taksherub_host::draw::draw;
 use taksherub_host::generate;
-use taksherub_host::make::{board_p, capture, levels, log, read, steps, write};
+use taksherub_host::make::{board_p, capture, levels, log, log_of, read, steps, write};
 use taksherub_host::model::follower::{Follower, Whole, PREAMBLE};
 use taksherub_host::model::listener::heard;
 use taksherub_host::model::waveform::{flags_in, waveform};
@@ -127,8 +127,7 @@ fn what_is_read_is_written_again() {
             refused += 1;
             continue;
         };
-        let log: Vec<[u8; 5]> = flags.iter().map(|&flags| [flags, 0, 0, 0, 0]).collect();
-        assert_eq!(waveform(&log).into_bytes(), text);
+        assert_eq!(waveform(log_of(&flags).as_chunks().0).into_bytes(), text);
         read += 1;
     }
     println!("{read} texts read, {refused} refused");

@@ -35,7 +35,7 @@ fn main() -> ExitCode {
     }
     println!("waveforms, best of {ROUNDS} rounds of {TEXTS_A_ROUND} texts of {MOST_STEPS} clocks:");
     waveforms("the run's", &log);
-    waveforms("the longest", &[[7, 0, 0, 0, 0], [0; LOG_RECORD]].concat().repeat(MOST_STEPS / 2));
+    waveforms("the longest", &make::busiest_log());
     ExitCode::SUCCESS
 }
 

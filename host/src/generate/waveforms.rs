@@ -1,5 +1,5 @@
-//! Logs for the writer of waveforms and texts for its reader: of real runs and of flags that change rarely or often, texts damaged in
-//! every way that comes to mind, all the small damages of some short texts, and both sides of the limits.
+//! Logs for the writer of waveforms and texts for its reader: of real runs and of flags that change rarely or often, the same texts
+//! damaged, all small damages of some short ones, and both sides of the limits.
 
 use super::{refused, size, Limit};
 use crate::calls::{Answer, Call, Input};
@@ -181,7 +181,7 @@ fn damage_ends(random: &mut Random, text: &mut Vec<u8>) {
 /// Short texts, and from where on every byte of each is changed: the header is the same in all and changed in two. They are those of no
 /// clock, of three, of ten with changes before and after the second digit, and of the most clocks without a change.
 fn short_texts() -> [(Vec<u8>, usize); 4] {
-    let of = |flags: &[u8]| text_of(&flags.iter().flat_map(|&flags| [flags, 0, 0, 0, 0]).collect::<Vec<u8>>());
+    let of = |flags: &[u8]| text_of(&make::log_of(flags));
     let behind = HEADER.len();
     [(of(&[]), 0), (of(&[1, 6, 7]), 0), (of(&[3, 3, 3, 3, 3, 3, 3, 3, 2, 6]), behind), (of(&[1; MOST_STEPS]), behind)]
 }
@@ -233,7 +233,7 @@ fn writer_limits() -> Vec<(&'static str, Input, Answer)> {
     let of = |log: Vec<u8>, room| Input { log, room, ..Input::default() };
     let header = HEADER.len();
     let quiet = |clocks| vec![0; clocks * LOG_RECORD];
-    let busy = || [[7, 0, 0, 0, 0], [0; LOG_RECORD]].concat().repeat(MOST_STEPS / 2);
+    let busy = make::busiest_log;
     vec![
         ("no clock, the header and closing time 1", of(quiet(0), header + 3), Ok(())),
         ("no clock, a byte short", of(quiet(0), header + 2), refused(10, 0)),
@@ -263,7 +263,7 @@ fn writer_limits() -> Vec<(&'static str, Input, Answer)> {
 
 fn reader_limits() -> Vec<(&'static str, Input, Answer)> {
     let of = |lines: &str, room| Input { text: behind_the_header(lines), room, ..Input::default() };
-    let busy = text_of(&[[7, 0, 0, 0, 0], [0; LOG_RECORD]].concat().repeat(MOST_STEPS / 2));
+    let busy = text_of(&make::busiest_log());
     vec![
         ("no byte", Input::default(), refused(18, 0)),
         ("the header alone", of("", 0), refused(18, 0)),
