@@ -15,7 +15,8 @@ use Rattle.verdict.specs.File.{byteFault}
 use Rattle.verdict.specs.Lists.{All}
 use Rattle.verdict.specs.Output.{join, written, roomFor, Writes}
 use Rattle.verdict.proofs.Checks.{done-by, bytes-done}
-use Rattle.verdict.proofs.Elements.{all-append, all-map-of, all-or}
+use Rattle.verdict.proofs.Elements.{all-map-of, all-or}
+use Rattle.verdict.proofs.Lists.{all-join}
 use Rattle.frame.specs.declared.list.Transaction.{Transaction}
 use Rattle.frame.specs.Frame.{preamble, clocks, logRecord, logPartBytes}
 use Rattle.frame.specs.List.{mostTransactions, isRead, listVerdict, transactions}
@@ -37,11 +38,6 @@ use Rattle.agreement.specs.Exchange.{emptyLog, sendVerdict, sending, log
 -- every step of a translation is one of the four
 abbrev OneOfFour : ℕ → Type 0
 OneOfFour step = step ≤ 3
-
-all-join : {A : Type 0} (Q : A → Type 0) (xss : List (List A)) → All (All Q) xss → All Q (join xss)
-unfolding join
-all-join Q [] h = tt
-all-join Q (xs ∷ xss) h = all-append Q xs (join xss) (h .0) (all-join Q xss (h .1))
 
 same-steps : (n step : ℕ) → OneOfFour step → All OneOfFour (replicate n step)
 same-steps zero step h = tt

@@ -58,6 +58,12 @@ module _ {A : Type 0} where
   join-append [] yss = refl
   join-append (xs ∷ xss) yss = ap (λ (zs : List A). xs ++ zs) (join-append xss yss) ∙ sym (append-assoc xs (join xss) (join yss))
 
+  -- what holds of every element of every list
+  pub all-join : (Q : A → Type 0) (xss : List (List A)) → All (All Q) xss → All Q (join xss)
+  unfolding join
+  all-join Q [] h = tt
+  all-join Q (xs ∷ xss) h = all-append Q xs (join xss) (h .0) (all-join Q xss (h .1))
+
   -- pieces of one size, one after the other
   pub length-pieces : (w n : ℕ) (piece : ℕ → List A) → ((k : ℕ) → length (piece k) ≡ w) → length (join (tabulate n piece)) ≡ n * w
   unfolding tabulate join

@@ -1,5 +1,5 @@
 -- What document 02 says of waveforms beside the promises.
-use Prim.Native.Nat.{ℕ, _*_, _%_, _≤_}
+use Prim.Native.Nat.{ℕ, _*_, _%_, _≤_, _<_}
 use mathlib.Core.Path.{_≡_, refl, ap, sym, _∙_}
 use mathlib.Core.Bool.{Bool, true, false}
 use mathlib.Core.List.{List, map}
@@ -7,6 +7,7 @@ use native.Mathlib.Omega.{arith}
 use lib.ListN.{length}
 use lib.Dec.{ltb}
 use borrow.Author.Tests.{le-ltb}
+use Rattle.verdict.specs.Lists.{All}
 use Rattle.verdict.specs.declared.Verdict.{Verdict}
 use Rattle.verdict.specs.declared.Verdict.the-variants.{Done, Refused}
 use Rattle.verdict.specs.Refusal.{noRoom, wrongText, _when_, refuse}
@@ -16,11 +17,11 @@ use Rattle.verdict.proofs.Lists.{map-tabulate, tabulate-ext}
 use Rattle.verdict.proofs.Outputs.{writes-unique}
 use Rattle.frame.specs.Frame.{logRecord}
 use Rattle.waveform.specs.Signals.{signalsOf}
-use Rattle.waveform.specs.Waveform.{textOf, waveform, writing, Written, WritesAs, flagsIn, ReadBack, longest}
+use Rattle.waveform.specs.Waveform.{textOf, signalsIn, waveform, writing, Written, WritesAs, flagsIn, ReadBack, longest}
 use Rattle.waveform.specs.Passes.{Accepted}
-use Rattle.waveform.proofs.Logs.{masked, signals-told}
+use Rattle.waveform.proofs.Logs.{masked, signals-told, logOf, log-bytes}
 use Rattle.waveform.proofs.Longest.{never-longer}
-use Rattle.waveform.proofs.ReadBack.{reading-both}
+use Rattle.waveform.proofs.ReadBack.{log-read, read-log, reading-both}
 
 -- two results that meet the promise of `write_vcd` are equal, as are the outputs
 pub write-unique : (log out : List ℕ) {r s : Verdict} {out₁ out₂ : List ℕ} → Written log out r out₁ → Written log out s out₂ → (r ≡ s) × (out₁ ≡ out₂)
@@ -52,6 +53,11 @@ refused-only-if text out read refused log writes = go (ltb (length out) (records
     go : (short : Bool) → refuse (noRoom when short) 0 (Done (records logRecord log)) ≡ Refused wrongText 0 → ⊥
     go true e = let z : _≡_ {A = ℕ} 10 18 = cc in omega arith
     go false e = let z : _≡_ {A = ℕ} 0 1 = cc in omega arith
+
+-- where no log of bytes writes a text none does, whatever numbers a log may have
+pub bytes-suffice : (text : List ℕ) → ((log : List ℕ) → All (λ b. b < 256) log → WritesAs log text → ⊥) → (log : List ℕ) → WritesAs log text → ⊥
+bytes-suffice text strange log writes =
+    strange (logOf (signalsIn log)) (log-bytes (signalsIn log)) (read-log text (signalsIn log) (log-read log text writes))
 
 -- a log's text depends on its flags 1, 2 and 4 alone
 pub only-flags : (log : List ℕ) → waveform log ≡ textOf (map signalsOf (flagsIn log))

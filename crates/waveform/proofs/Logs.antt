@@ -8,10 +8,11 @@ use lib.Arith.{mod-mul}
 use lib.ListN.{length, getD}
 use lib.Dec.{eqb}
 use borrow.Author.Tests.{eqb-true, eqb-false}
+use Rattle.verdict.specs.Lists.{All}
 use Rattle.verdict.specs.Bits.{bit}
 use Rattle.verdict.specs.File.{byteAt, records}
 use Rattle.verdict.specs.Output.{tabulate, join}
-use Rattle.verdict.proofs.Lists.{tabulate-ext, tabulate-of, map-tabulate, length-pieces, getD-pieces}
+use Rattle.verdict.proofs.Lists.{all-tabulate, all-join, tabulate-ext, tabulate-of, map-tabulate, length-pieces, getD-pieces}
 use Rattle.frame.specs.Frame.{logRecord}
 use Rattle.machine.specs.Run.{mostSteps}
 use Rattle.wire.specs.Wire.{asBit}
@@ -58,6 +59,10 @@ signals-told signals = go (signals .level) (signals .enable) (signals .contentio
     go false false true = refl
     go false false false = refl
 
+-- flags are a byte
+flags-small : (signals : Signals) → flagsOf signals < 256
+flags-small signals = omega (arith, ap flagsOf (sym (signals-told signals)), masked (flagsOf signals))
+
 -- the flags of a log's clocks
 pub flags-masked : (log : List ℕ) → map flagsOf (signalsIn log) ≡ flagsIn log
 flags-masked log =
@@ -97,6 +102,13 @@ module _ (clocks : List Signals) where
           ap (λ k. signalsOf (getD logOf k 0)) place
           ∙ ap signalsOf (getD-pieces logRecord (length clocks) recordAt record-size 0 i 0 here (omega arith))
           ∙ signals-told (getD clocks i (signalsOf 0))
+
+  -- its numbers are bytes
+  pub log-bytes : All (λ b. b < 256) logOf
+  unfolding logOf recordAt recordWith
+  log-bytes =
+      all-join (λ b. b < 256) (tabulate (length clocks) recordAt)
+      (all-tabulate (All (λ b. b < 256)) (length clocks) recordAt (λ i here. (flags-small (getD clocks i (signalsOf 0)), (omega arith, (omega arith, (omega arith, (omega arith, tt)))))))
 
   -- the writer accepts it, and its text is that of the clocks
   pub writes-as : (text : List ℕ) → length clocks ≤ mostSteps → textOf clocks ≡ text → WritesAs logOf text
