@@ -4,7 +4,7 @@ use mathlib.Core.Path.{_≡_, refl, ap, sym, _∙_}
 use mathlib.Core.Bool.{Bool, true, false}
 use mathlib.Core.List.{List, [], _∷_, map}
 use native.Mathlib.Omega.{arith}
-use lib.ListN.{length, take, drop, replicate, length-append, length-replicate}
+use lib.ListN.{length, take, drop, replicate, length-append}
 use lib.Seq.{take-at}
 use borrow.Author.Tests.{le-ltb, eq-eqb}
 use Rattle.verdict.specs.declared.Verdict.{Verdict}
@@ -33,7 +33,7 @@ use Rattle.machine.specs.Run.{mostSteps, largestStep, stepsVerdict, running, lo
 use Rattle.machine.specs.Plain.{planning}
 use Rattle.machine.proofs.Accepts.{room-done}
 use Rattle.machine.proofs.RunLaws.{log-length}
-use Rattle.agreement.specs.Exchange.{emptyLog, sendVerdict, sending, logOfExchange, physAfterExchange, Sent, answersOfExchange, Exchanged}
+use Rattle.agreement.specs.Exchange.{sendVerdict, sending, logOfExchange, physAfterExchange, Sent, answersOfExchange, Exchanged}
 
 -- every step of a translation is one of the four
 abbrev OneOfFour : ℕ → Type 0
@@ -111,11 +111,6 @@ module _ (list : List ℕ) (n : ℕ) (accepted : listVerdict list ≡ Done n) wh
   -- its log is refused for room alone
   pub decoding-log : (board : Board) (events out : List ℕ) → decoding list (logOfRun board (translation list) events) out ≡ roomFor out (n * answerRecord)
   decoding-log board events out = rw (accepted, eq-eqb _ (n * logPartBytes) (log-counted board events ∙ omega arith))
-
--- the room for the log has the longest log's length
-pub log-room : {room : List ℕ} → room ≡ emptyLog → length room ≡ mostSteps * logRecord
-unfolding emptyLog
-log-room empty = ap length empty ∙ length-replicate {A = ℕ} (mostSteps * logRecord) 0
 
 -- the list's checks decide whether it is translated
 translating-list : (list out : List ℕ) → length out ≡ mostSteps → translating list out ≡ andThen (listVerdict list) (λ n. Done (n * clocks))

@@ -2,7 +2,6 @@
 use Prim.Native.Nat.{ℕ, _*_}
 use mathlib.Core.Path.{_≡_}
 use mathlib.Core.List.{List, map}
-use lib.ListN.{replicate}
 use Rattle.verdict.specs.declared.Verdict.{Verdict}
 use Rattle.verdict.specs.declared.Verdict.the-variants.{Done}
 use Rattle.verdict.specs.Refusal.{andThen}
@@ -18,7 +17,7 @@ use Rattle.board.specs.Check.{checked}
 use Rattle.board.specs.Events.{eventsVerdict}
 use Rattle.machine.specs.declared.Outcome.{Outcome}
 use Rattle.machine.specs.Outcome.{HandsBack}
-use Rattle.machine.specs.Run.{mostSteps, logOfRun, physAfterRun}
+use Rattle.machine.specs.Run.{logOfRun, physAfterRun}
 use Rattle.machine.specs.Plain.{planning}
 use Rattle.agreement.specs.Demand3.{registersOf, linksOf}
 
@@ -33,10 +32,6 @@ sendVerdict board list events =
 -- then 10
 abbrev pub sending : Board → List ℕ → List ℕ → List ℕ → Verdict
 sending board list events out = andThen (sendVerdict board list events) (λ n. roomFor out (n * clocks * logRecord))
-
--- room for the log of the longest list
-unfoldable pub emptyLog : List ℕ
-emptyLog = replicate (mostSteps * logRecord) 0
 
 -- the log of the run
 abbrev pub logOfExchange : Board → List ℕ → List ℕ → List ℕ

@@ -10,9 +10,11 @@ use machine::Steps;
 use machine::run;
 use verdict::Verdict;
 ghost use mathlib.Core.Path.{_≡_};
+ghost use Prim.Native.Nat.{_*_};
 ghost use lib.ListN.{length};
+ghost use Rattle.frame.specs.Frame.{logRecord};
 ghost use Rattle.machine.specs.Run.{mostSteps};
-ghost use Rattle.agreement.specs.Exchange.{emptyLog, Sent, Exchanged};
+ghost use Rattle.agreement.specs.Exchange.{Sent, Exchanged};
 
 // Room for the steps of the longest list, and for their log.
 fn room_for_steps() -> [u8; Steps::MOST]
@@ -23,8 +25,8 @@ fn room_for_steps() -> [u8; Steps::MOST]
 
 const LOG: usize = Steps::MOST * Frame::LOG_RECORD;
 
-pub fn room_for_log() -> [u8; LOG]
-    ensures { λ r. ⌜ r ≡ emptyLog ⌝ }
+fn room_for_log() -> [u8; LOG]
+    ensures { λ r. ⌜ mostSteps * logRecord ≡ length r ⌝ }
 {
     [0; LOG]
 }

@@ -1,7 +1,7 @@
 -- A run's levels are those of its transactions with the answers that the decoder hears in them (demand 3), and each transaction is read back as its answer.
 use Prim.Native.Nat.{ℕ, _+_, _-_, _≤_, _<_}
-use mathlib.Core.Path.{_≡_, refl, ap, sym, _∙_}
-use mathlib.Core.Bool.{Bool, true, false}
+use mathlib.Core.Path.{_≡_, ap, sym, _∙_}
+use mathlib.Core.Bool.{Bool, true}
 use mathlib.Core.List.{List, map}
 use native.Mathlib.Omega.{arith}
 use lib.ListN.{length, getD, length-map}
@@ -30,7 +30,7 @@ use Rattle.board.proofs.LoadSound.{load-sound}
 use Rattle.board.proofs.LoadTyped.{load-typed}
 use Rattle.machine.specs.Run.{logOfRun, atStart}
 use Rattle.machine.specs.Plain.{answersOfPlain}
-use Rattle.machine.proofs.Lines.{bit-small}
+use Rattle.machine.proofs.Lines.{bit-small, bit-level}
 use Rattle.machine.proofs.Lockstep.{driven-all}
 use Rattle.machine.proofs.RunLaws.{log-length}
 use Rattle.agreement.specs.Levels.{at, heardAll, levelsOfAll}
@@ -45,11 +45,6 @@ use Rattle.listener.specs.Records.{recordsOfAll}
 use Rattle.listener.specs.Listening.{mostLevels, captureVerdict, largestLevel, levelsIn, recordsIn, listening, Listened}
 use Rattle.listener.specs.ReadBack.{captureOfRun, ReadsBack}
 use Rattle.listener.proofs.Transactions.{list-back}
-
--- a bit is a level again
-bit-level : (level : Bool) → eqb (asBit level) 1 ≡ level
-bit-level true = refl
-bit-level false = refl
 
 module _ (board : Board) (list events : List ℕ) (asked : Asked board list) where
   abbrev runLog : List ℕ

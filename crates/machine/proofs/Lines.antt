@@ -43,3 +43,8 @@ mark-set mask address h =
 pub bit-small : (level : Bool) → asBit level ≤ 1
 bit-small true = omega arith
 bit-small false = omega arith
+
+-- a bit is a level again
+pub bit-level : (level : Bool) → eqb (asBit level) 1 ≡ level
+bit-level true = refl
+bit-level false = refl

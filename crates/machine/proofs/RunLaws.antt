@@ -38,7 +38,7 @@ pub run-unique : (board : Board) (steps events log : List ℕ) {r s : Outcome} {
 run-unique board steps events log p q = hands-back-unique p q
 
 -- The flags: "1 level, 2 station drives, 4 two or more parties drive"
-three-flags : (a b c : Bool) → (bit 0 (asBit a * 1 + asBit b * 2 + asBit c * 4) ≡ asBit a) × (bit 1 (asBit a * 1 + asBit b * 2 + asBit c * 4) ≡ asBit b) × (bit 2 (asBit a * 1 + asBit b * 2 + asBit c * 4) ≡ asBit c)
+pub three-flags : (a b c : Bool) → (bit 0 (asBit a * 1 + asBit b * 2 + asBit c * 4) ≡ asBit a) × (bit 1 (asBit a * 1 + asBit b * 2 + asBit c * 4) ≡ asBit b) × (bit 2 (asBit a * 1 + asBit b * 2 + asBit c * 4) ≡ asBit c)
 three-flags false false false = (refl, refl, refl)
 three-flags false false true = (refl, refl, refl)
 three-flags false true false = (refl, refl, refl)

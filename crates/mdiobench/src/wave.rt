@@ -1,18 +1,31 @@
 // The program for the students' viewers (document 02, E3: "Write a log as such text"). It sends the list over the wire as ever,
 // and where it would print the answers it prints the waveform of the run.
 use crate::report;
-use agreement::room_for_log;
 use agreement::send;
 use board::Board;
+use frame::Frame;
 use libc::STDOUT_FILENO;
+use machine::Steps;
 use verdict::Verdict;
 use waveform::Waveform;
 use waveform::write_vcd;
 ghost use mathlib.Core.Path.{_≡_};
+ghost use Prim.Native.Nat.{_*_};
 ghost use lib.ListN.{length};
+ghost use Rattle.frame.specs.Frame.{logRecord};
+ghost use Rattle.machine.specs.Run.{mostSteps};
 ghost use Rattle.waveform.specs.Waveform.{longest};
 ghost use Rattle.mdiobench.specs.Tray.{Passed};
 ghost use Rattle.mdiobench.specs.Drawing.{Drawn};
+
+// Room for the log of the longest list, and for the longest text.
+const LOG: usize = Steps::MOST * Frame::LOG_RECORD;
+
+fn room_for_log() -> [u8; LOG]
+    ensures { λ r. ⌜ mostSteps * logRecord ≡ length r ⌝ }
+{
+    [0; LOG]
+}
 
 const TEXT: usize = Waveform::LONGEST;
 

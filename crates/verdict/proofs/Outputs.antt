@@ -1,6 +1,6 @@
 -- Outputs: a promise fixes the answer and every byte, and a loop fills an output, or an array, from its start.
 use Prim.Native.Nat.{ℕ, suc, _+_, _*_, _-_, _≤_, _<_}
-use mathlib.Core.Path.{_≡_, sym, ap, ap₂, _∙_}
+use mathlib.Core.Path.{_≡_, sym, ap₂, _∙_}
 use mathlib.Core.List.{List, [], _∷_, _++_, append-assoc, append-nil}
 use native.Mathlib.Omega.{arith}
 use native.Mathlib.Nat.{suc-mul}
@@ -26,6 +26,12 @@ refuses result out e p = record { verdict = p ∙ sym e; output = rw e }
 pub succeeds : {answer : Verdict} {n : ℕ} {result out out′ : List ℕ} → answer ≡ Done n → out′ ≡ written result out → Writes answer result out (Done n) out′
 succeeds e p = record { verdict = sym e; output = rw e p }
 
+-- A result that grows: one value more, put in the place behind those that are there
+pub set-next : {A : Type 0} (done out : List A) (i : ℕ) (v : A) → length done ≡ i → i < length out → set (done ++ drop i out) i v ≡ (done ++ (v ∷ [])) ++ drop (i + 1) out
+set-next done out i v long h =
+    rw (drop-cons out i v h, set-at done _ _ v i long, add-one)
+    (sym (append-assoc done (v ∷ []) (drop (suc i) out)))
+
 -- An output filled value by value: the first i values are put, the others stand
 module _ {A : Type 0} (f : ℕ → A) (out : List A) where
   abbrev pub filled : ℕ → List A
@@ -37,15 +43,13 @@ module _ {A : Type 0} (f : ℕ → A) (out : List A) where
   -- one value more
   pub fill-next : (i : ℕ) → i < length out → set (filled i) i (f i) ≡ filled (i + 1)
   unfolding tabulate
-  fill-next i h =
-      rw (drop-cons out i (f i) h, set-at (tabulate i f) _ _ (f i) i (length-tabulate i f), add-one)
-      (sym (append-assoc (tabulate i f) (f i ∷ []) (drop (suc i) out)))
+  fill-next i h = set-next (tabulate i f) out i (f i) (length-tabulate i f) h ∙ rw add-one
 
   -- the same of a list that is filled so far
   pub fill : (xs : List A) (i : ℕ) (v : A) → i < length out → xs ≡ filled i → v ≡ f i → set xs i v ≡ filled (i + 1)
   fill xs i v h so-far here = ap₂ (λ (ys : List A) (w : A). set ys i w) so-far here ∙ fill-next i h
 
--- A result that grows: w values more, put in the place behind those that are there
+-- The same with w values more, put in the place behind those that are there
 pub put-next : (done piece out : List ℕ) (at w : ℕ) → length done ≡ at → length piece ≡ w →
     putMid at (at + w - at) (done ++ drop at out) piece ≡ (done ++ piece) ++ drop (at + w) out
 put-next done piece out at w long size =

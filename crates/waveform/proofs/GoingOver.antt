@@ -2,17 +2,17 @@
 use Prim.Native.Nat.{ℕ, zero, suc, _+_, _-_, _≤_, _<_}
 use mathlib.Core.Path.{_≡_, refl, ap, sym, _∙_}
 use mathlib.Core.Bool.{Bool, true, false, cond}
-use mathlib.Core.List.{List, [], _∷_, _++_, map, map-append, append-assoc, append-nil}
+use mathlib.Core.List.{List, [], _∷_, _++_, map, map-append, append-nil}
 use mathlib.Core.Option.{Option, none, some}
 use native.Mathlib.Omega.{arith}
 use native.Mathlib.Numerals.{add-one}
 use lib.ListN.{length, drop, set, length-append, length-drop, length-map}
-use lib.Seq.{drop-cons, set-at}
 use lib.Dec.{eqb, ltb, leb}
 use borrow.Author.Tests.{le-leb, lt-leb}
 use Rattle.verdict.specs.declared.Verdict.the-variants.{Done, Refused}
 use Rattle.verdict.specs.Refusal.{wrongText}
 use Rattle.verdict.specs.Output.{written}
+use Rattle.verdict.proofs.Outputs.{set-next}
 use Rattle.machine.specs.Run.{mostSteps}
 use Rattle.waveform.specs.declared.signals.Signals.{Signals}
 use Rattle.waveform.specs.declared.read.Shown.{Shown}
@@ -48,9 +48,8 @@ prepend-some (first ∷ past) rest = ap (prepend first) (prepend-some past rest)
 -- a value behind those that are written
 write-next : (done out : List ℕ) (value : ℕ) → length done < length out → set (written done out) (length done) value ≡ written (done ++ (value ∷ [])) out
 write-next done out value here =
-    let size : length (done ++ (value ∷ [])) ≡ suc (length done) = omega (arith, length-append done (value ∷ [])) in
-    rw (drop-cons out (length done) value here, set-at done _ _ value (length done) refl, size)
-    (sym (append-assoc done (value ∷ []) (drop (suc (length done)) out)))
+    set-next done out (length done) value refl here
+    ∙ ap (λ n. done ++ (value ∷ []) ++ drop n out) (sym (length-append done (value ∷ [])))
 
 -- two ways to go on that agree
 same-later : (next : Next) (later later′ : Shown → Option (List Signals)) → ((shown : Shown) → later shown ≡ later′ shown) → clocksBy next later ≡ clocksBy next later′

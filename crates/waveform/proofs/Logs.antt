@@ -15,6 +15,8 @@ use Rattle.verdict.specs.Output.{tabulate, join}
 use Rattle.verdict.proofs.Lists.{all-tabulate, all-join, tabulate-ext, tabulate-of, map-tabulate, length-pieces, getD-pieces}
 use Rattle.frame.specs.Frame.{logRecord}
 use Rattle.machine.specs.Run.{mostSteps}
+use Rattle.machine.proofs.Lines.{bit-small, bit-level}
+use Rattle.machine.proofs.RunLaws.{three-flags}
 use Rattle.wire.specs.Wire.{asBit}
 use Rattle.waveform.specs.declared.signals.Signals.{Signals}
 use Rattle.waveform.specs.Signals.{signalsOf, flagsOf}
@@ -47,21 +49,14 @@ masked flags =
 
 pub signals-told : (signals : Signals) → signalsOf (flagsOf signals) ≡ signals
 unfolding flagsOf signalsOf
-signals-told signals = go (signals .level) (signals .enable) (signals .contention)
-  where
-    go : (level enable contention : Bool) → let s : Signals = record { level = level; enable = enable; contention = contention } in signalsOf (flagsOf s) ≡ s
-    go true true true = refl
-    go true true false = refl
-    go true false true = refl
-    go true false false = refl
-    go false true true = refl
-    go false true false = refl
-    go false false true = refl
-    go false false false = refl
+signals-told signals =
+    let flags = three-flags (signals .level) (signals .enable) (signals .contention) in
+    rw (flags .0, flags .1, flags .2, bit-level (signals .level), bit-level (signals .enable), bit-level (signals .contention))
 
 -- flags are a byte
 flags-small : (signals : Signals) → flagsOf signals < 256
-flags-small signals = omega (arith, ap flagsOf (sym (signals-told signals)), masked (flagsOf signals))
+unfolding flagsOf
+flags-small signals = omega (arith, bit-small (signals .level), bit-small (signals .enable), bit-small (signals .contention))
 
 -- the flags of a log's clocks
 pub flags-masked : (log : List ℕ) → map flagsOf (signalsIn log) ≡ flagsIn log

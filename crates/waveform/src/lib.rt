@@ -15,9 +15,9 @@ impl Waveform {
     // As many clocks as the longest run has.
     pub const MOST: usize = Steps::MOST;
     // The bytes of the longest text: the header, and that many clocks of which each shows all three signals.
-    pub const LONGEST: usize = Waveform::HEADER + Waveform::MOST_LINES;
+    pub const LONGEST: usize = Waveform::HEADER + Waveform::LONGEST_LINES;
     // The bytes of the header.
     pub(crate) const HEADER: usize = 239;
-    // The time lines of clocks 1 to 9, 10 to 99, 100 to 999 and 1000 to the closing time, and the value lines.
-    const MOST_LINES: usize = 9 * 3 + 90 * 4 + 900 * 5 + 3162 * 6 + 9 * Waveform::MOST;
+    // The bytes of its time lines, of clocks 1 to 9, 10 to 99, 100 to 999 and 1000 to the closing time, and of its value lines.
+    const LONGEST_LINES: usize = 9 * 3 + 90 * 4 + 900 * 5 + 3162 * 6 + 9 * Waveform::MOST;
 }

@@ -1,15 +1,15 @@
 -- There is room for every log: so what is refused after `send` is refused for the answers' room alone, and the decoder gets the log of the run.
 use Rattle.agreement.proofs.exchange.Statement.{statement}
 use Rattle.agreement.proofs.exchange.Tie as tie
-use mathlib.Core.Path.{_∙_}
+use mathlib.Core.Path.{sym, _∙_}
 use Rattle.machine.proofs.Laws.{refuses-back}
-use Rattle.agreement.proofs.ExchangeCalls.{log-room, planning-sends, Logged, logged, not-logged, exchanged, not-decoded}
+use Rattle.agreement.proofs.ExchangeCalls.{planning-sends, Logged, logged, not-logged, exchanged, not-decoded}
 use borrow.Author.Needs.{needs}
 
 -- the log of the run stands at the start of its room
 heard : (c : tie.After-heard) → let sent = c .before .before .before .before in let args = sent .before .before .before .before .before .before .args in
     Logged (args .board) (args .list .now) (args .events .now) (sent .send .last .1 .1 .1 .0) (c .heard .given .0 .0) (sent .send .result .board)
-heard c = let sent = c .before .before .before .before in logged _ _ _ (log-room (sent .before .before .room-for-log .ensures)) (sent .send .ensures) (c .heard .given .1)
+heard c = let sent = c .before .before .before .before in logged _ _ _ (sym (sent .before .before .room-for-log .ensures)) (sent .send .ensures) (c .heard .given .1)
 
 room-for-log-requires : tie.Need-room-for-log-requires
 room-for-log-requires c κs = search needs
@@ -33,7 +33,7 @@ returns : tie.Need-returns
 returns c =
     let sent = c .before .before .before .before .before in
     let args = sent .before .before .before .before .before .before .args in
-    let refused = not-logged _ _ _ (log-room (sent .before .before .room-for-log .ensures)) (sent .send .ensures) (c .before .enum-told .given .1) in
+    let refused = not-logged _ _ _ (sym (sent .before .before .room-for-log .ensures)) (sent .send .ensures) (c .before .enum-told .given .1) in
     rw (c .of .ensures) (refuses-back (planning-sends _ _ _ (args .answers .now) ∙ rw refused) (c .before .enum-told .given .1))
 
 array-share-prefix-log : tie.Need-array-share-prefix-log

@@ -1,6 +1,7 @@
 -- There is room for every log, so that the writer gets the log of the run.
+use mathlib.Core.Path.{sym}
 use Rattle.verdict.proofs.Outputs.{refuses}
-use Rattle.agreement.proofs.ExchangeCalls.{log-room, Logged, logged, not-logged}
+use Rattle.agreement.proofs.ExchangeCalls.{Logged, logged, not-logged}
 use Rattle.mdiobench.proofs.Drawings.{drawn}
 use borrow.Author.Needs.{needs}
 use Rattle.mdiobench.proofs.wave.draw.Statement.{statement}
@@ -9,7 +10,7 @@ use Rattle.mdiobench.proofs.wave.draw.Tie as tie
 -- the log of the run stands at the start of its room
 heard : (c : tie.After-heard) → let sent = c .before .before .before in let args = sent .before .before .before .before .before .before .args in
     Logged (args .board) (args .list .now) (args .events .now) (sent .send .last .1 .1 .1 .0) (c .heard .given .0 .0) (sent .send .result .board)
-heard c = let sent = c .before .before .before in logged _ _ _ (log-room (sent .before .before .room-for-log .ensures)) (sent .send .ensures) (c .heard .given .1)
+heard c = let sent = c .before .before .before in logged _ _ _ (sym (sent .before .before .room-for-log .ensures)) (sent .send .ensures) (c .heard .given .1)
 
 room-for-log-requires : tie.Need-room-for-log-requires
 room-for-log-requires c κs = search needs
@@ -29,7 +30,7 @@ enum-told c = search needs
 returns : tie.Need-returns
 returns c =
     let sent = c .before .before .before in
-    let refused = not-logged _ _ _ (log-room (sent .before .before .room-for-log .ensures)) (sent .send .ensures) (c .enum-told .given .1) in
+    let refused = not-logged _ _ _ (sym (sent .before .before .room-for-log .ensures)) (sent .send .ensures) (c .enum-told .given .1) in
     refuses _ _ (rw refused) (c .enum-told .given .1)
 
 array-share-prefix-log : tie.Need-array-share-prefix-log

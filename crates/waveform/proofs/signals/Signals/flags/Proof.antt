@@ -5,15 +5,16 @@ use mathlib.Core.Bool.{Bool, true, false}
 use native.Mathlib.Omega.{arith}
 use mir.Val.{boolByte}
 use Rattle.wire.specs.Wire.{asBit}
+use Rattle.machine.proofs.Lines.{bit-small}
 use Rattle.waveform.specs.Signals.{flagsOf}
 use borrow.Author.Needs.{needs}
 use Rattle.waveform.proofs.signals.Signals.flags.Statement.{statement}
 use Rattle.waveform.proofs.signals.Signals.flags.Tie as tie
 
 -- a bool as a number
-as-bit : (b : Bool) → (boolByte b ≡ asBit b) × (boolByte b ≤ 1)
-as-bit true = (refl, omega arith)
-as-bit false = (refl, omega arith)
+as-bit : (b : Bool) → (boolByte b ≡ asBit b) × (asBit b ≤ 1)
+as-bit true = (refl, bit-small true)
+as-bit false = (refl, bit-small false)
 
 cast-result : tie.Need-cast-result
 cast-result c = search needs
