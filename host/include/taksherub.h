@@ -43,6 +43,10 @@
  * A pointer is never null, not even with length 0, and points to as many bytes
  * as the length behind it says. The output overlaps no input. Nothing is kept
  * after the call, and calls share no state: threads may call at the same time.
+ *
+ * taksherub_decode and taksherub_listen use at most 256 bytes of stack, however
+ * much there is to decode. taksherub_run and taksherub_plain hold boards by
+ * value, and use some 40 and 60 kilobytes.
  */
 #ifndef TAKSHERUB_H
 #define TAKSHERUB_H
