@@ -2,8 +2,8 @@
  * has little. Each is called on a stack of its own, painted before the call: how
  * far down the paint is gone is what the call used, its return address too.
  * Fails if one uses more than 256 bytes, or more for a long list than for a
- * short one. The limit is 512, but below it a transaction's 325 bytes could be
- * copied unseen. */
+ * short one. The node would allow each 512, but within these a transaction's 325
+ * bytes could be copied unseen. */
 #include "taksherub.h"
 
 #include <stdio.h>
