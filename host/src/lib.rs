@@ -9,5 +9,6 @@ pub mod draw;
 pub mod generate;
 pub mod make;
 pub mod model;
+pub mod old_box;
 pub mod random;
 pub mod tray;

@@ -26,7 +26,8 @@ pub fn plain(board: &mut Board, list_file: &[u8], event_file: &[u8], answers: &m
 }
 
 impl Board {
-    fn exchange(&mut self, transaction: Transaction) -> [u8; ANSWER_RECORD] {
+    /// One transaction, in the clock in which it acts.
+    pub fn exchange(&mut self, transaction: Transaction) -> [u8; ANSWER_RECORD] {
         let Transaction { write, address, register, data } = transaction;
         let phy = self.place(address).map(|place| &mut self.phys[place]).filter(|phy| phy.implements(register));
         match phy {
