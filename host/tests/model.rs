@@ -12,7 +12,7 @@ use taksherub_host::model::waveform::{flags_in, waveform};
 use taksherub_host::model::wire::{CONTENTION, STATION};
 use taksherub_host::model::{decode, listen, program, read_back, run, Board};
 use taksherub_host::random::Random;
-use taksherub_host::tray;
+use taksherub_host::{old_box, tray};
 
 /// Inputs that the plain machine takes, out of so many, and its answers.
 fn good_inputs(seed: u64, count: usize) -> Vec<(Input, Vec<u8>)> {
@@ -181,6 +181,30 @@ fn examples_print_what_is_expected() {
         assert_eq!(printed, String::from_utf8(file("expected")).unwrap(), "{}", folder.display());
     }
     assert!(trays >= 6 && captures >= 4, "{trays} trays, {captures} captures");
+}
+
+/// What the old box would have printed for a tray of the examples, and the ordinals of the lines in which that is not what is expected.
+fn old_box_on(name: &str) -> (String, Vec<usize>) {
+    let folder = examples().join(name);
+    let printed = old_box::printed(&folder).unwrap();
+    let expected = fs::read_to_string(folder.join("expected")).unwrap();
+    assert_eq!(printed.lines().count(), expected.lines().count());
+    let pairs = printed.lines().zip(expected.lines()).enumerate();
+    let differing = pairs.filter(|(_, (old, ours))| old != ours).map(|(before, _)| before + 1).collect();
+    (printed, differing)
+}
+
+/// The old box loses a break that begins and ends while a status word is on the wire, and no other of the examples. What it would
+/// have printed for `tray-40` stands there.
+#[test]
+fn the_old_box_loses_a_break_inside_a_status_word() {
+    let (printed, differing) = old_box_on("tray-40");
+    assert_eq!(printed, fs::read_to_string(examples().join("tray-40/old-box")).unwrap());
+    assert_eq!(differing, [25]);
+    assert_eq!(old_box_on("break-at-45-and-46").1, [12]);
+    for name in ["document-01", "reset", "silence"] {
+        assert!(old_box_on(name).1.is_empty(), "{name}");
+    }
 }
 
 /// `capture-40` is the capture of the run of `tray-40`, and reads back as what is printed for that tray.
