@@ -5,9 +5,10 @@ use std::path::{Path, PathBuf};
 use taksherub_host::calls::{Call, Input, MODEL};
 use taksherub_host::draw::draw;
 use taksherub_host::generate;
-use taksherub_host::make::{board_p, capture, levels, log, log_of, read, steps, write};
+use taksherub_host::make::{board_p, capture, event, levels, log, log_of, phy, read, steps, write};
 use taksherub_host::model::follower::{Follower, Whole, PREAMBLE};
 use taksherub_host::model::listener::heard;
+use taksherub_host::model::phy::{status, Event};
 use taksherub_host::model::waveform::{flags_in, waveform};
 use taksherub_host::model::wire::{CONTENTION, STATION};
 use taksherub_host::model::{decode, listen, program, read_back, run, Board};
@@ -233,11 +234,32 @@ fn the_example_waveforms_are_those_of_the_trays() {
     assert!(trays >= 5 && stored == trays, "{trays} trays that run, {stored} waveforms");
 }
 
+fn page(name: &str) -> String {
+    fs::read_to_string(Path::new(env!("CARGO_MANIFEST_DIR")).join("../docs").join(name)).unwrap()
+}
+
+/// docs/LINK.md names the status words that its parts show, and its table of last digits goes by the link bit.
+#[test]
+fn the_link_page_tells_the_link_bit() {
+    let page = page("LINK.md");
+    let board = [board_p(), phy(2, 0x00000003, &[(0, 0x2000), (1, 0x6000)], &[])].concat();
+    let list = [read(1, 1), read(1, 1), read(1, 1), read(2, 1), read(2, 1)].concat();
+    let happen = [(0, 1, Event::LinkUp), (0, 2, Event::LinkUp), (130, 1, Event::RemoteFault), (130, 1, Event::Jabber)];
+    let events = happen.map(|(clock, address, what)| event(clock, address, what as u8)).concat();
+    let printed = program(&board, &list, &events);
+    let words: Vec<&str> = printed.lines().map(|line| &line[line.len() - 4..]).collect();
+    assert_eq!(words, ["7849", "784D", "785F", "6000", "6004"]);
+    assert!(words.iter().all(|word| page.contains(word)));
+    let row = page.lines().find(|line| line.starts_with("| link bit |")).unwrap();
+    let cells: Vec<&str> = row.split(" | ").skip(1).map(|cell| cell.trim_end_matches(" |")).collect();
+    assert_eq!(cells, (0..16).map(|digit| if digit & status::LINK != 0 { "set" } else { "clear" }).collect::<Vec<_>>());
+}
+
 /// The drawings of docs/BENCH.md are the wire's.
 #[test]
 #[expect(clippy::unusual_byte_groupings, reason = "the groups are the frame's fields")]
 fn the_bench_page_draws_the_wire() {
-    let page = fs::read_to_string(Path::new(env!("CARGO_MANIFEST_DIR")).join("../docs/BENCH.md")).unwrap();
+    let page = page("BENCH.md");
     let list = [write(3, 0, 0x1200), read(1, 1), read(2, 0)].concat();
     let foreign = levels(32, 0b00_01_01010_00011_10_0000101010111100);
     let steps = [steps(&list), foreign, vec![2]].concat();
