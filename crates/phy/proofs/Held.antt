@@ -34,7 +34,7 @@ pub reset-ignores-events : (code : ℕ) (phy : Phy) → inReset phy ≡ true →
 unfolding event
 reset-ignores-events code phy e n7 = rw (e, ne-eqb code 7 n7)
 
--- "Reading register 1 returns it, then 1.4 and 1.1 clear and 1.2 becomes the link's state": a read returns what was held
+-- "then 1.4 and 1.1 clear and 1.2 becomes the link's state": what register 1 holds after a status read. That the read returns it as it was is shown by `clock-header`
 pub status-read : (phy : Phy) → 1 < length (phy .registers) → registerOf 1 (afterRead 1 phy) ≡ heldAfter (phy .link) (registerOf 1 phy)
 unfolding afterRead readStatus
 status-read phy long = getD-set-same (phy .registers) 1 (heldAfter (phy .link) (registerOf 1 phy)) 0 long
