@@ -66,13 +66,12 @@ impl Transaction {
             } else {
                 Step::DRIVE_ZERO
             },
-            Frame::DATA..=Frame::WRITE_ACTS => {
-                if read {
-                    Step::RELEASE_AND_SAMPLE
-                } else {
-                    drive_bit(self.data, Frame::WRITE_ACTS - position)
-                }
-            }
+            Frame::DATA..=Frame::WRITE_ACTS => if read {
+                Step::RELEASE_AND_SAMPLE
+            } else {
+                drive_bit(self.data, Frame::WRITE_ACTS - position)
+            },
+            Frame::CLOCKS => Step::RELEASE,
             _ => Step::RELEASE,
         }
     }

@@ -68,42 +68,45 @@ returns-4 c =
     rw (c .before .match .keys2) (sym (rw (c .if2 .left) at (table .turnaround-second)))
 
 returns-5 : tie.Need-returns-5
-returns-5 c = sym (by-table _ .preamble _ (omega arith) (omega arith))
+returns-5 c = rw (c .match .keys3) (sym (by-table _ .idle 65 (omega arith)))
 
 returns-6 : tie.Need-returns-6
-returns-6 c = c .drive-bit .ensures ∙ sym (by-table _ .start _ (omega arith) (omega arith))
+returns-6 c = sym (by-table _ .preamble _ (omega arith) (omega arith))
 
 returns-7 : tie.Need-returns-7
-returns-7 c =
+returns-7 c = c .drive-bit .ensures ∙ sym (by-table _ .start _ (omega arith) (omega arith))
+
+returns-8 : tie.Need-returns-8
+returns-8 c =
     let p = c .before .before .before .before .before .before .before .before .args .position in
     let op-row = by-table (c .before .before .before .before .before .before .before .before .args .self) .op p (omega arith) (omega arith) in
     let bits : c .before .if7 .bits ≡ column (isRead (c .before .before .before .before .before .before .before .before .args .self)) 1 2 =
     ⊎-elim (λ w. rw (w .0 .taken) (w .1)) (λ w. rw (w .0 .left) (w .1)) (c .before .if7 .came) in
     c .drive-bit2 .ensures ∙ ap (bit (36 - p)) bits ∙ sym op-row
 
-returns-8 : tie.Need-returns-8
-returns-8 c = c .drive-bit3 .ensures ∙ sym (by-table _ .address _ (omega arith) (omega arith))
-
 returns-9 : tie.Need-returns-9
-returns-9 c = c .drive-bit4 .ensures ∙ sym (by-table _ .register _ (omega arith) (omega arith))
+returns-9 c = c .drive-bit3 .ensures ∙ sym (by-table _ .address _ (omega arith) (omega arith))
 
 returns-10 : tie.Need-returns-10
-returns-10 c =
-    let data-row = by-table (c .before .before .before .before .before .before .before .before .before .before .args .self) .«data» (c .before .before .before .before .before .before .before .before .before .before .args .position) (omega arith) (omega arith) in
-    sym (rw (c .if11 .taken) at data-row)
+returns-10 c = c .drive-bit4 .ensures ∙ sym (by-table _ .register _ (omega arith) (omega arith))
 
 returns-11 : tie.Need-returns-11
 returns-11 c =
-    let data-row = by-table (c .before .before .before .before .before .before .before .before .before .before .before .args .self) .«data» (c .before .before .before .before .before .before .before .before .before .before .before .args .position) (omega arith) (omega arith) in
-    c .drive-bit5 .ensures ∙ sym (rw (c .before .if11 .left) at data-row)
+    let data-row = by-table (c .before .before .before .before .before .before .before .before .before .before .args .self) .«data» (c .before .before .before .before .before .before .before .before .before .before .args .position) (omega arith) (omega arith) in
+    sym (rw (c .if11 .taken) at data-row)
 
 returns-12 : tie.Need-returns-12
 returns-12 c =
+    let data-row = by-table (c .before .before .before .before .before .before .before .before .before .before .before .args .self) .«data» (c .before .before .before .before .before .before .before .before .before .before .before .args .position) (omega arith) (omega arith) in
+    c .drive-bit5 .ensures ∙ sym (rw (c .before .if11 .left) at data-row)
+
+returns-13 : tie.Need-returns-13
+returns-13 c =
     let none : c .before .before .before .args .position ≡ 0 = omega arith in
     rw none (sym (by-table _ .before))
 
-returns-13 : tie.Need-returns-13
-returns-13 c = sym (by-table _ .idle _ (omega arith))
+returns-14 : tie.Need-returns-14
+returns-14 c = sym (by-table _ .idle _ (omega arith))
 
 pub step-spec : {M : Type 1} → statement M
 step-spec =
@@ -133,4 +136,5 @@ step-spec =
     returns-10
     returns-11
     returns-12
-    returns-13)
+    returns-13
+    returns-14)
