@@ -2,7 +2,7 @@
 use Prim.Native.Nat.{ℕ, _+_, _*_, _≤_, _<_}
 use mathlib.Core.Path.{_≡_, refl, ap, sym, _∙_}
 use mathlib.Core.Bool.{Bool, true, false}
-use mathlib.Core.List.{List, map}
+use mathlib.Core.List.{List}
 use native.Mathlib.Omega.{arith}
 use native.Mathlib.Numerals.{add-one}
 use denote.Ref.{RefT, now, ptr}
@@ -19,7 +19,7 @@ use Rattle.frame.specs.declared.list.Transaction.{Transaction}
 use Rattle.frame.specs.Frame.{clocks}
 use Rattle.frame.specs.List.{listRecord, mostTransactions, isRead, transactionAt, recordFault, listVerdict}
 use Rattle.frame.specs.Steps.{stepsOf, stepAt, translation, Translated}
-use Rattle.frame.specs.Log.{levelAt, levels, logPart, PartOf}
+use Rattle.frame.specs.Log.{levelAt, logPart, PartOf}
 use Rattle.frame.specs.Answers.{answerIn, answersIn, Decoded}
 use Rattle.frame.proofs.Positions.{length-steps}
 
