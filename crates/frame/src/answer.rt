@@ -1,8 +1,9 @@
 // The decoder: what a list's log answers (document 01, "Records").
 use crate::Frame;
+use crate::list::Parse;
 use crate::list::Transaction;
 use crate::list::check_list;
-use crate::list::transaction_at;
+use crate::list::parsed_at;
 use crate::log::log_part;
 use verdict::Verdict;
 use verdict::byte_at;
@@ -138,7 +139,12 @@ pub fn decode(list: &[u8], log: &[u8], answers: &mut [u8]) -> Verdict
     }
     let mut k = 0;
     while k < count {
-        let answer = transaction_at(list, k).answer_in(log_part(log, k + 1));
+        // The list's check came first, so no record is bad here, and a refusal has written nothing.
+        let record = parsed_at(list, k);
+        let Parse::Good(transaction) = record else {
+            return Verdict::Refused(record.refusal(), k);
+        };
+        let answer = transaction.answer_in(log_part(log, k + 1));
         let at = k * Answer::BYTES;
         let end = at + Answer::BYTES;
         answer.put(&mut answers[at..end]);

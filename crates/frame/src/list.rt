@@ -3,8 +3,6 @@ use verdict::Verdict;
 use verdict::byte_at;
 use verdict::word_at;
 ghost use mathlib.Core.Path.{_≡_};
-ghost use Prim.Native.Nat.{_+_, _*_, _≤_};
-ghost use lib.ListN.{length};
 ghost use Rattle.frame.specs.List.{transactionAt, faultOf, parsed, refusalOf, listVerdict};
 
 pub struct Transaction {
@@ -35,7 +33,8 @@ pub enum Parse {
 }
 
 impl Parse {
-    fn refusal(self) -> u8
+    // The number that refuses the record; 0 for a good one.
+    pub fn refusal(self) -> u8
         ensures { λ r. ⌜ r ≡ refusalOf self ⌝ }
     {
         match self {
@@ -93,13 +92,15 @@ impl Transaction {
     }
 }
 
-// The record at index k of a list that has it.
-fn parsed_at(list: &[u8], k: usize) -> Parse
-    requires { ⌜ k * 6 + 6 ≤ length (now list) ⌝ }
+// The record at index k, read and checked. What lies past the list's end reads 0, which is no op.
+pub fn parsed_at(list: &[u8], k: usize) -> Parse
     ensures { λ r. ⌜ r ≡ parsed (now (list .entry)) k ⌝ }
 {
+    if list.len() / Transaction::BYTES < k {
+        return Parse::Bad(Verdict::WRONG_OP);
+    }
     let record = transaction_at(list, k);
-    let fault = record.fault(list[k * Transaction::BYTES + 3]);
+    let fault = record.fault(byte_at(list, k * Transaction::BYTES + 3));
     if fault == 0 {
         Parse::Good(record)
     } else {

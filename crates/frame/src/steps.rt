@@ -1,8 +1,9 @@
 // The translator: 65 clock steps for each transaction (document 01, "Clock steps").
 use crate::Frame;
+use crate::list::Parse;
 use crate::list::Transaction;
 use crate::list::check_list;
-use crate::list::transaction_at;
+use crate::list::parsed_at;
 use verdict::Verdict;
 ghost use mathlib.Core.Path.{_≡_};
 ghost use Prim.Native.Nat.{_<_, _+_};
@@ -101,9 +102,14 @@ pub fn translate(list: &[u8], steps: &mut [u8]) -> Verdict
     }
     let mut k = 0;
     while k < count {
+        // The list's check came first, so no record is bad here, and a refusal has written nothing.
+        let record = parsed_at(list, k);
+        let Parse::Good(transaction) = record else {
+            return Verdict::Refused(record.refusal(), k);
+        };
         let at = k * Frame::CLOCKS;
         let end = at + Frame::CLOCKS;
-        transaction_at(list, k).send(&mut steps[at..end]);
+        transaction.send(&mut steps[at..end]);
         k += 1;
     }
     Verdict::Done(count * Frame::CLOCKS)

@@ -14,7 +14,7 @@ use Rattle.frame.specs.declared.answer.Answer.{Answer}
 use Rattle.frame.specs.List.{transactionAt, listVerdict}
 use Rattle.frame.specs.Log.{logPart}
 use Rattle.frame.specs.Answers.{answerBytes, answerIn}
-use Rattle.frame.proofs.Lists.{accepted-list, put-fills}
+use Rattle.frame.proofs.Lists.{good-is-own, put-fills, accepted-list, accepted-not-bad}
 use Rattle.frame.proofs.answer.decode.Statement.{statement}
 use Rattle.frame.proofs.answer.decode.Tie as tie
 
@@ -72,11 +72,26 @@ loop-holds : tie.Need-loop-holds Inv-loop μ-loop
 unfolding tabulate join
 loop-holds c = (omega arith, refl)
 
-transaction-at-requires : tie.Need-transaction-at-requires Inv-loop μ-loop
-transaction-at-requires c κs = tt
+parsed-at-requires : tie.Need-parsed-at-requires Inv-loop μ-loop
+parsed-at-requires c κs = tt
+
+enum-known-record : tie.Need-enum-known-record Inv-loop μ-loop
+enum-known-record c = c .match2 .keys1
+
+enum-told-2 : tie.Need-enum-told-2 Inv-loop μ-loop
+enum-told-2 c = c .match2 .keys2
+
+refusal-requires : tie.Need-refusal-requires Inv-loop μ-loop
+refusal-requires c κs = tt
+
+same-length : tie.Need-same-length Inv-loop μ-loop
+same-length c = room (c .before .before .before .before .before)
+
+returns-4 : tie.Need-returns-4 Inv-loop μ-loop
+returns-4 c = absurd (accepted-not-bad _ _ (listed (c .before .before .before .before .before .before .before .before)) _ _ (omega arith) (sym (c .before .before .before .parsed-at .ensures) ∙ c .before .enum-told2 .given .1))
 
 add-log-part : tie.Need-add-log-part Inv-loop μ-loop
-add-log-part c = omega (arith, few (c .before .before .before .before .before))
+add-log-part c = omega (arith, few (c .before .before .before .before .before .before .before .before))
 
 log-part-requires : tie.Need-log-part-requires Inv-loop μ-loop
 log-part-requires c κs = tt
@@ -85,10 +100,10 @@ answer-in-requires : tie.Need-answer-in-requires Inv-loop μ-loop
 answer-in-requires c κs = tt
 
 mul-at : tie.Need-mul-at Inv-loop μ-loop
-mul-at c = omega (arith, few (c .before .before .before .before .before .before .before))
+mul-at c = omega (arith, few (c .before .before .before .before .before .before .before .before .before .before))
 
 add-end : tie.Need-add-end Inv-loop μ-loop
-add-end c = omega (arith, few (c .before .before .before .before .before .before .before))
+add-end c = omega (arith, few (c .before .before .before .before .before .before .before .before .before .before))
 
 sub-put : tie.Need-sub-put Inv-loop μ-loop
 sub-put c = omega arith
@@ -97,39 +112,40 @@ part-put-start : tie.Need-part-put-start Inv-loop μ-loop
 part-put-start c = omega arith
 
 part-put-end : tie.Need-part-put-end Inv-loop μ-loop
-part-put-end c = omega (arith, room (c .before .before .before .before), few (c .before .before .before .before .before .before .before))
+part-put-end c = omega (arith, room (c .before .before .before .before .before .before .before), few (c .before .before .before .before .before .before .before .before .before .before))
 
 put-requires : tie.Need-put-requires Inv-loop μ-loop
 put-requires c κs = tt
 
 add-k : tie.Need-add-k Inv-loop μ-loop
-add-k c = omega (arith, few (c .before .before .before .before .before .before .before .before .before .before .before))
+add-k c = omega (arith, few (c .before .before .before .before .before .before .before .before .before .before .before .before .before .before))
 
 loop-less : tie.Need-loop-less Inv-loop μ-loop
 loop-less c = omega arith
 
 loop-again : tie.Need-loop-again Inv-loop μ-loop
 loop-again c =
-    let list = c .before .before .before .before .before .before .before .before .before .before .before .before .before .before .before .before .before .before .args .list .now in
-    let log = c .before .before .before .before .before .before .before .before .before .before .before .before .before .before .before .before .before .before .args .log .now in
-    let out = c .before .before .before .before .before .before .before .before .before .before .before .before .before .before .before .before .before .before .args .answers .now in
-    let k = c .before .before .before .before .before .before .before .before .loop .k in
+    let list = c .before .before .before .before .before .before .before .before .before .before .before .before .before .before .before .before .before .before .before .before .before .args .list .now in
+    let log = c .before .before .before .before .before .before .before .before .before .before .before .before .before .before .before .before .before .before .before .before .before .args .log .now in
+    let out = c .before .before .before .before .before .before .before .before .before .before .before .before .before .before .before .before .before .before .before .before .before .args .answers .now in
+    let k = c .before .before .before .before .before .before .before .before .before .before .before .loop .k in
+    let sent = good-is-own list k _ (sym (c .before .before .before .before .before .before .before .before .before .parsed-at .ensures) ∙ c .before .before .before .before .before .before .before .«record» .given .1) in
     let puts =
     c .before .before .put .ensures
     ∙ put-fills _ _ (omega (arith, c .before .before .before .put-arg .given .1))
-    ∙ ap answerBytes (c .before .before .before .before .answer-in .ensures ∙ ap₂ answerIn (c .before .before .before .before .before .before .transaction-at .ensures) (c .before .before .before .before .before .log-part .ensures .bytes)) in (
+    ∙ ap answerBytes (c .before .before .before .before .answer-in .ensures ∙ ap₂ answerIn sent (c .before .before .before .before .before .log-part .ensures .bytes)) in (
       omega arith,
-      rw (puts, c .before .before .before .before .before .before .before .before .loop .inv .1) (piece-next 6 (piece list log) (λ j. refl) out k),
+      rw (puts, c .before .before .before .before .before .before .before .before .before .before .before .loop .inv .1) (piece-next 6 (piece list log) (λ j. refl) out k),
     )
 
-mul-t10 : tie.Need-mul-t10 Inv-loop μ-loop
-mul-t10 c = omega (arith, few (c .before .before .before .before))
+mul-t12 : tie.Need-mul-t12 Inv-loop μ-loop
+mul-t12 c = omega (arith, few (c .before .before .before .before))
 
-same-length : tie.Need-same-length Inv-loop μ-loop
-same-length c = room (c .before)
+same-length-2 : tie.Need-same-length-2 Inv-loop μ-loop
+same-length-2 c = room (c .before)
 
-returns-4 : tie.Need-returns-4 Inv-loop μ-loop
-returns-4 c =
+returns-5 : tie.Need-returns-5 Inv-loop μ-loop
+returns-5 c =
     let list = c .before .before .before .before .before .before .before .before .before .before .before .args .list .now in
     let log = c .before .before .before .before .before .before .before .before .before .before .before .args .log .now in
     let out = c .before .before .before .before .before .before .before .before .before .before .before .args .answers .now in
@@ -161,7 +177,12 @@ decode-spec =
     mul-if2
     returns-3
     loop-holds
-    transaction-at-requires
+    parsed-at-requires
+    enum-known-record
+    enum-told-2
+    refusal-requires
+    same-length
+    returns-4
     add-log-part
     log-part-requires
     answer-in-requires
@@ -174,6 +195,6 @@ decode-spec =
     add-k
     loop-less
     loop-again
-    mul-t10
-    same-length
-    returns-4)
+    mul-t12
+    same-length-2
+    returns-5)

@@ -37,7 +37,7 @@ loop-holds c =
     )
 
 parsed-at-requires : tie.Need-parsed-at-requires Inv-loop μ-loop
-parsed-at-requires c κs = omega arith
+parsed-at-requires c κs = tt
 
 enum-told : tie.Need-enum-told Inv-loop μ-loop
 enum-told c = c .match .keys1

@@ -1,21 +1,14 @@
 -- The record's bytes, one by one; past the list's end each reads 0.
-use Prim.Native.Nat.{ℕ, _+_, _*_, _≤_}
-use mathlib.Core.Path.{_≡_}
+use mathlib.Core.Path.{sym}
 use native.Mathlib.Omega.{arith}
-use denote.Ref.{now}
-use lib.ListN.{getD, List·getD-eq-default}
 use Rattle.frame.specs.List.{transactionAt}
+use Rattle.frame.proofs.Lists.{none-past}
 use borrow.Author.Needs.{needs}
 use Rattle.frame.proofs.list.transaction_at.Statement.{statement}
 use Rattle.frame.proofs.list.transaction_at.Tie as tie
 
 returns : tie.Need-returns
-unfolding transactionAt
-returns c =
-    let list = now (c .before .before .args .list) in
-    let k = c .before .before .args .k in
-    let past : (j : ℕ) → k * 6 ≤ j → getD list j 0 ≡ 0 = λ j h. List·getD-eq-default list 0 (omega arith) in
-    rw (past (k * 6) (omega arith), past (k * 6 + 1) (omega arith), past (k * 6 + 2) (omega arith), past (k * 6 + 4) (omega arith), past (k * 6 + 4 + 1) (omega arith))
+returns c = sym (none-past _ _ (omega arith))
 
 mul-at : tie.Need-mul-at
 mul-at c = search needs

@@ -13,7 +13,7 @@ use Prim.Native.Nat.{ℕ, _+_, _*_, _-_, _≤_}
 use native.Mathlib.Omega.{arith}
 use borrow.Author.Tests.{lt-ltb, le-ltb}
 use Rattle.frame.specs.List.{transactionAt, listVerdict}
-use Rattle.frame.proofs.Lists.{accepted-list}
+use Rattle.frame.proofs.Lists.{good-is-own, accepted-list, accepted-not-bad}
 use Rattle.frame.proofs.Positions.{length-steps, steps-by-position}
 use Rattle.frame.proofs.steps.translate.Statement.{statement}
 use Rattle.frame.proofs.steps.translate.Tie as tie
@@ -66,14 +66,29 @@ loop-holds : tie.Need-loop-holds Inv-loop μ-loop
 unfolding tabulate join
 loop-holds c = (omega arith, refl)
 
+parsed-at-requires : tie.Need-parsed-at-requires Inv-loop μ-loop
+parsed-at-requires c κs = tt
+
+enum-known-record : tie.Need-enum-known-record Inv-loop μ-loop
+enum-known-record c = c .match2 .keys1
+
+enum-told-2 : tie.Need-enum-told-2 Inv-loop μ-loop
+enum-told-2 c = c .match2 .keys2
+
+refusal-requires : tie.Need-refusal-requires Inv-loop μ-loop
+refusal-requires c κs = tt
+
+same-length : tie.Need-same-length Inv-loop μ-loop
+same-length c = room (c .before .before .before .before .before)
+
+returns-3 : tie.Need-returns-3 Inv-loop μ-loop
+returns-3 c = absurd (accepted-not-bad _ _ (listed (c .before .before .before .before .before .before .before)) _ _ (omega arith) (sym (c .before .before .before .parsed-at .ensures) ∙ c .before .enum-told2 .given .1))
+
 mul-at : tie.Need-mul-at Inv-loop μ-loop
-mul-at c = omega (arith, few (c .before .before .before))
+mul-at c = omega (arith, few (c .before .before .before .before .before .before .before))
 
 add-end : tie.Need-add-end Inv-loop μ-loop
-add-end c = omega (arith, few (c .before .before .before))
-
-transaction-at-requires : tie.Need-transaction-at-requires Inv-loop μ-loop
-transaction-at-requires c κs = tt
+add-end c = omega (arith, few (c .before .before .before .before .before .before .before))
 
 sub-send : tie.Need-sub-send Inv-loop μ-loop
 sub-send c = omega arith
@@ -82,39 +97,40 @@ part-send-start : tie.Need-part-send-start Inv-loop μ-loop
 part-send-start c = omega arith
 
 part-send-end : tie.Need-part-send-end Inv-loop μ-loop
-part-send-end c = omega (arith, room (c .before .before), few (c .before .before .before .before))
+part-send-end c = omega (arith, room (c .before .before .before .before .before), few (c .before .before .before .before .before .before .before))
 
 send-requires : tie.Need-send-requires Inv-loop μ-loop
 send-requires c κs = tt
 
 add-k : tie.Need-add-k Inv-loop μ-loop
-add-k c = omega (arith, few (c .before .before .before .before .before .before .before .before))
+add-k c = omega (arith, few (c .before .before .before .before .before .before .before .before .before .before .before))
 
 loop-less : tie.Need-loop-less Inv-loop μ-loop
 loop-less c = omega arith
 
 loop-again : tie.Need-loop-again Inv-loop μ-loop
 loop-again c =
-    let list = c .before .before .before .before .before .before .before .before .before .before .before .before .before .before .args .list .now in
-    let out = c .before .before .before .before .before .before .before .before .before .before .before .before .before .before .args .steps .now in
-    let k = c .before .before .before .before .before .before .loop .k in
-    let long : length (take (k * 65 + 65 - k * 65) (drop (k * 65) (c .before .before .before .before .before .before .loop .steps))) ≡ 65 = omega (arith, c .before .before .before .send-arg .given .2) in
+    let list = c .before .before .before .before .before .before .before .before .before .before .before .before .before .before .before .before .before .args .list .now in
+    let out = c .before .before .before .before .before .before .before .before .before .before .before .before .before .before .before .before .before .args .steps .now in
+    let k = c .before .before .before .before .before .before .before .before .before .loop .k in
+    let sent = good-is-own list k _ (sym (c .before .before .before .before .before .before .before .parsed-at .ensures) ∙ c .before .before .before .before .before .«record» .given .1) in
+    let long : length (take (k * 65 + 65 - k * 65) (drop (k * 65) (c .before .before .before .before .before .before .before .before .before .loop .steps))) ≡ 65 = omega (arith, c .before .before .before .send-arg .given .2) in
     let sends =
     c .before .before .send .ensures
-    ∙ ap₂ (λ (n : ℕ) (t : Transaction). tabulate n (λ i. stepAt t (i + 1))) long (c .before .before .before .before .transaction-at .ensures)
+    ∙ ap₂ (λ (n : ℕ) (t : Transaction). tabulate n (λ i. stepAt t (i + 1))) long sent
     ∙ steps-by-position (transactionAt list k) in (
       omega arith,
-      rw (sends, c .before .before .before .before .before .before .loop .inv .1) (piece-next 65 (piece list) (λ j. length-steps (transactionAt list j)) out k),
+      rw (sends, c .before .before .before .before .before .before .before .before .before .loop .inv .1) (piece-next 65 (piece list) (λ j. length-steps (transactionAt list j)) out k),
     )
 
-mul-t8 : tie.Need-mul-t8 Inv-loop μ-loop
-mul-t8 c = omega (arith, few (c .before .before .before))
+mul-t10 : tie.Need-mul-t10 Inv-loop μ-loop
+mul-t10 c = omega (arith, few (c .before .before .before))
 
-same-length : tie.Need-same-length Inv-loop μ-loop
-same-length c = room (c .before)
+same-length-2 : tie.Need-same-length-2 Inv-loop μ-loop
+same-length-2 c = room (c .before)
 
-returns-3 : tie.Need-returns-3 Inv-loop μ-loop
-returns-3 c =
+returns-4 : tie.Need-returns-4 Inv-loop μ-loop
+returns-4 c =
     let list = c .before .before .before .before .before .before .before .before .before .args .list .now in
     let out = c .before .before .before .before .before .before .before .before .before .args .steps .now in
     let n = c .before .before .before .before .listed .given .0 .0 in
@@ -142,9 +158,14 @@ translate-spec =
     mul-if1
     returns-2
     loop-holds
+    parsed-at-requires
+    enum-known-record
+    enum-told-2
+    refusal-requires
+    same-length
+    returns-3
     mul-at
     add-end
-    transaction-at-requires
     sub-send
     part-send-start
     part-send-end
@@ -152,6 +173,6 @@ translate-spec =
     add-k
     loop-less
     loop-again
-    mul-t8
-    same-length
-    returns-3)
+    mul-t10
+    same-length-2
+    returns-4)
