@@ -44,9 +44,10 @@ impl Header {
 }
 
 impl Follower {
-    pub const MOST_ONES: u8 = 32;
+    // The ones of a whole preamble: more are not counted.
+    pub const MOST_ONES: u8 = Frame::PREAMBLE as u8;
     // Inside a frame at most this many bits were seen: the next one ends it.
-    pub const MOST_SEEN: u8 = 31;
+    pub const MOST_SEEN: u8 = (Frame::BITS - 1) as u8;
     // How many values a frame has without its last bit: the bits seen, below this, have room for one more.
     pub const HALF_FRAME_VALUES: u32 = 0x8000_0000;
 
