@@ -15,12 +15,12 @@ use wire::Header;
 impl Phy {
     // The ones that a PHY which accepts suppressed preambles needs before a frame.
     pub const SUPPRESSED_ONES: u8 = 1;
-    // Of a frame's bits, those seen before the header's last one, and those of the header.
-    pub const BEFORE_HEADER: u8 = 13;
+    // Of a frame's bits, those of the header, and those seen before its last one.
+    pub const HEADER: u8 = Frame::HEADER_BITS as u8;
 
-    pub const HEADER: u8 = 14;
-    // The bits seen before the clock in which an answer starts: it drives 0 for bit 16.
-    pub const BEFORE_ANSWER: u8 = 15;
+    pub const BEFORE_HEADER: u8 = Phy::HEADER - 1;
+    // The bits seen before the clock in which an answer starts: it drives 0 in the second turnaround clock, for bit 16.
+    pub const BEFORE_ANSWER: u8 = (Frame::TURNAROUND_SECOND - Frame::START) as u8;
 
     // As a load leaves it: hunting with 0 ones, link down, registers at default.
     pub fn fresh(address: u8, implemented: u32, defaults: [u16; 32], masks: [u16; 32]) -> Phy
