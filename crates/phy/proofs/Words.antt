@@ -1,7 +1,7 @@
 -- The code's masks (`&`, `|`) as bits of a word: a mask is taken apart from its highest bit down.
 use Prim.Native.Nat.{ℕ, zero, suc, _+_, _-_, _*_, _/_, _%_, _^_, _≤_, _<_}
 use mathlib.Core.Path.{_≡_, refl, sym, ap, ap₂, _∙_}
-use mathlib.Core.Bool.{Bool, true, false, not, _&&_, _||_, cond, or-assoc, or-false}
+use mathlib.Core.Bool.{Bool, true, false, not, _&&_, _||_, cond, or-assoc, or-false, Bool·not-not}
 use mathlib.Core.List.{List, [], _∷_}
 use native.Mathlib.Omega.{arith}
 use lib.ListN.{length, getD}
@@ -127,6 +127,25 @@ has-bit i w = ap (λ (x : ℕ). not (eqb x 0)) (and-bit i w) ∙ go (bit i w) (b
     go zero h = simp zero-mul
     go (suc zero) h = rw (one-mul, ne-eqb (2 ^ i) 0 (λ none. omega (arith, none, pow-pos i)))
     go (suc (suc b)) h = absurd (omega arith)
+
+-- and the other way round, `word & mask == 0`
+abbrev pub noneOf : List ℕ → ℕ → Bool
+noneOf [] w = true
+noneOf (i ∷ is) w = not (one i w) && noneOf is w
+
+pub has-none : (is : List ℕ) (w : ℕ) → T (falling is) → eqb (bitAnd w (maskOf is)) 0 ≡ noneOf is w
+has-none is w t = sym (Bool·not-not (eqb (bitAnd w (maskOf is)) 0)) ∙ ap not (has-these is w t) ∙ go is
+  where
+    not-or : (a b : Bool) → not (a || b) ≡ (not a && not b)
+    not-or true b = refl
+    not-or false b = refl
+
+    go : (is : List ℕ) → not (anyOr is w false) ≡ noneOf is w
+    go [] = refl
+    go (i ∷ is) = not-or (one i w) (anyOr is w false) ∙ ap (λ (b : Bool). not (one i w) && b) (go is)
+
+pub has-no-bit : (i w : ℕ) → eqb (bitAnd w (2 ^ i)) 0 ≡ not (one i w)
+has-no-bit i w = sym (Bool·not-not (eqb (bitAnd w (2 ^ i)) 0)) ∙ ap not (has-bit i w)
 
 -- Words bit by bit
 pub wordOf-lt : (n : ℕ) (f : ℕ → ℕ) → ((i : ℕ) → f i < 2) → wordOf n f < 2 ^ n

@@ -34,6 +34,8 @@ impl Control {
 
     pub const UNIDIRECTIONAL_ENABLE: u16 = 0x0020;
 
+    pub const RESERVED: u16 = 0x001F;
+
     // The bits that a write stores as they come.
     pub const STORED: u16 = Control::LOOPBACK
         | Control::POWER_DOWN
@@ -50,7 +52,7 @@ impl Control {
     pub const THOUSAND: u16 = Control::SPEED_MSB;
 
     // Whether the speed that a word asks for is able.
-    fn speed_able(status: u16, extended: u16, word: u16) -> bool
+    pub fn speed_able(status: u16, extended: u16, word: u16) -> bool
         ensures { λ r. ⌜ r ≡ speedAble status extended (one 6 word) (one 13 word) ⌝ }
     {
         let speed = word & Control::SPEED;

@@ -42,6 +42,12 @@ impl Status {
 
     pub const EXTENDED_CAPABILITY: u16 = 0x0001;
 
+    // The bits that change; the others stand at their default.
+    pub const HELD: u16 = Status::AUTO_NEGOTIATION_COMPLETE
+        | Status::REMOTE_FAULT
+        | Status::LINK_STATUS
+        | Status::JABBER_DETECT;
+
     // The bits that say an ability: of each speed, and of each duplex.
     pub const TEN: u16 = Status::TEN_FULL | Status::TEN_HALF;
 
@@ -106,6 +112,8 @@ impl ExtendedStatus {
     pub const THOUSAND_T_FULL: u16 = 0x2000;
 
     pub const THOUSAND_T_HALF: u16 = 0x1000;
+
+    pub const RESERVED: u16 = 0x0FFF;
 
     pub const THOUSAND: u16 = ExtendedStatus::FULL | ExtendedStatus::HALF;
 
