@@ -1,21 +1,30 @@
-// The registers' number and the bits that a sound board is asked about (document 01, "A sound board").
+// The registers' places, and what a sound board is asked about words (document 01, "A sound board").
+use phy::Control;
+use phy::ExtendedStatus;
+use phy::Phy;
 use phy::Status;
 ghost use mathlib.Core.Path.{_≡_};
 ghost use Rattle.phy.specs.Sound.{standsOutside};
 
+// The registers by name, as places in a PHY's arrays.
 pub(crate) struct Register {}
 
 impl Register {
-    pub(crate) const COUNT: usize = 32;
-    // Register 0's bits 4:0 and register 15's bits 11:0 are what is left by these.
-    pub(crate) const CONTROL_RESERVED: u16 = 32;
+    pub(crate) const COUNT: usize = Phy::REGISTERS as usize;
 
-    pub(crate) const EXTENDED_RESERVED: u16 = 4096;
-    // The bits of register 1 that move; the others stand at default.
-    pub(crate) const STATUS_MOVES: u16 = Status::AUTO_NEGOTIATION_COMPLETE
-        | Status::REMOTE_FAULT
-        | Status::LINK_STATUS
-        | Status::JABBER_DETECT;
+    pub(crate) const CONTROL: usize = Control::REGISTER as usize;
+
+    pub(crate) const STATUS: usize = Status::REGISTER as usize;
+
+    pub(crate) const IDENTIFIER_HIGH: usize = 2;
+
+    pub(crate) const IDENTIFIER_LOW: usize = 3;
+    // The two that lead to Clause 45's registers, which no PHY of the bench has.
+    pub(crate) const MMD_CONTROL: usize = 13;
+
+    pub(crate) const MMD_DATA: usize = 14;
+
+    pub(crate) const EXTENDED_STATUS: usize = ExtendedStatus::REGISTER as usize;
 }
 
 // Whether the bits outside a mask stand as in another word.

@@ -7,8 +7,9 @@ use phy::Phy;
 use phy::Status;
 use verdict::Verdict;
 ghost use mathlib.Core.Path.{_≡_};
-ghost use Prim.Native.Nat.{_≤_};
-ghost use Rattle.phy.specs.Record.{othersImplemented, registerSetRight, unimplementedZero, fastest, derivedControl, wordsRight, defaultsRight};
+ghost use Prim.Native.Nat.{_≤_, _<_};
+ghost use Rattle.phy.specs.Abilities.{one};
+ghost use Rattle.phy.specs.Record.{registerCount, othersImplemented, registerSetRight, unimplementedZero, fastest, derivedControl, wordsRight, defaultsRight};
 ghost use Rattle.board.specs.Record.{addressesOf, isAmong, faultOf, recordOf, refusalOf};
 
 // What the checks find of a record of a file.
@@ -29,14 +30,23 @@ impl Record {
     }
 }
 
+// Whether an implemented mask has a register.
+fn has(implemented: u32, register: usize) -> bool
+    requires { ⌜ register < registerCount ⌝ }
+    ensures { λ r. ⌜ r ≡ one register implemented ⌝ }
+{
+    (implemented >> register) % 2 == 1
+}
+
 // Whether any register beside 0, 1 and 13 to 15 is implemented.
 fn others_implemented(implemented: u32) -> bool
     ensures { λ r. ⌜ r ≡ othersImplemented implemented ⌝ }
 {
     let mut r: usize = 0;
     while r < Register::COUNT {
-        let there = (implemented >> (r as u32)) % 2 == 1;
-        if (((2 <= r) & (r <= 12)) | (16 <= r)) & there {
+        let other = ((Register::STATUS < r) & (r < Register::MMD_CONTROL))
+            | (Register::EXTENDED_STATUS < r);
+        if other & has(implemented, r) {
             return true;
         }
         r += 1;
@@ -48,14 +58,14 @@ fn others_implemented(implemented: u32) -> bool
 fn register_set_right(implemented: u32, defaults: [u16; 32]) -> bool
     ensures { λ r. ⌜ r ≡ registerSetRight implemented defaults ⌝ }
 {
-    let status = defaults[1];
-    let others = others_implemented(implemented);
-    let basic = (implemented % 2 == 1)
-        & (((implemented >> 1) % 2 == 1)
-            & (!((implemented >> 13) % 2 == 1) & !((implemented >> 14) % 2 == 1)));
-    basic
-        & ((((implemented >> 15) % 2 == 1) == ((status >> 8) % 2 == 1))
-            & ((status % 2 == 1) == others))
+    let status = defaults[Register::STATUS];
+    let basic = has(implemented, Register::CONTROL)
+        & (has(implemented, Register::STATUS)
+            & (!has(implemented, Register::MMD_CONTROL) & !has(implemented, Register::MMD_DATA)));
+    let extended_status = has(implemented, Register::EXTENDED_STATUS)
+        == (status & Status::EXTENDED_STATUS != 0);
+    let extended = (status & Status::EXTENDED_CAPABILITY != 0) == others_implemented(implemented);
+    basic & (extended_status & extended)
 }
 
 // Check 6 on registers that are not implemented.
@@ -64,8 +74,7 @@ fn unimplemented_zero(implemented: u32, defaults: [u16; 32], masks: [u16; 32]) -
 {
     let mut r: usize = 0;
     while r < Register::COUNT {
-        let there = (implemented >> (r as u32)) % 2 == 1;
-        if !(there | ((defaults[r] == 0) & (masks[r] == 0))) {
+        if !(has(implemented, r) | ((defaults[r] == 0) & (masks[r] == 0))) {
             return false;
         }
         r += 1;
@@ -83,7 +92,7 @@ fn fastest(status: u16, extended: u16) -> u16
     if Status::able_100(status) {
         return Control::HUNDRED;
     }
-    0
+    Control::TEN
 }
 
 // The default of register 0, bit 10 apart.
@@ -91,7 +100,11 @@ fn derived_control(status: u16, extended: u16) -> u16
     ensures { λ r. ⌜ r ≡ derivedControl status extended ⌝ }
 {
     let speed = fastest(status, extended);
-    let negotiation = (status >> 3) % 2 * Control::AUTO_NEGOTIATION_ENABLE;
+    let negotiation = if status & Status::AUTO_NEGOTIATION_ABILITY != 0 {
+        Control::AUTO_NEGOTIATION_ENABLE
+    } else {
+        0
+    };
     if Status::able_half(status, extended) {
         return speed + negotiation;
     }
@@ -105,11 +118,9 @@ fn words_right(control: u16, status: u16, extended: u16) -> bool
     let derived = derived_control(status, extended);
     let able = Status::able_10(status)
         | (Status::able_100(status) | ExtendedStatus::able_1000(extended));
-    let clear = !((status >> 5) % 2 == 1)
-        & (!((status >> 4) % 2 == 1) & (!((status >> 2) % 2 == 1) & !((status >> 1) % 2 == 1)));
-    clear
-        & ((extended % Register::EXTENDED_RESERVED == 0)
-            & (able & (control == derived + (control >> 10) % 2 * Control::ISOLATE)))
+    (status & Status::HELD == 0)
+        & ((extended & ExtendedStatus::RESERVED == 0)
+            & (able & (control == derived + (control & Control::ISOLATE))))
 }
 
 // Check 6.
@@ -117,9 +128,16 @@ fn defaults_right(implemented: u32, defaults: [u16; 32], masks: [u16; 32]) -> bo
     ensures { λ r. ⌜ r ≡ defaultsRight implemented defaults masks ⌝ }
 {
     let idle = unimplemented_zero(implemented, defaults, masks);
-    let words = words_right(defaults[0], defaults[1], defaults[15]);
-    let fixed = (masks[0] == 0)
-        & ((masks[1] == 0) & ((masks[2] == 0) & ((masks[3] == 0) & (masks[15] == 0))));
+    let words = words_right(
+        defaults[Register::CONTROL],
+        defaults[Register::STATUS],
+        defaults[Register::EXTENDED_STATUS],
+    );
+    let fixed = (masks[Register::CONTROL] == 0)
+        & ((masks[Register::STATUS] == 0)
+            & ((masks[Register::IDENTIFIER_HIGH] == 0)
+                & ((masks[Register::IDENTIFIER_LOW] == 0)
+                    & (masks[Register::EXTENDED_STATUS] == 0))));
     idle & (fixed & words)
 }
 

@@ -4,16 +4,13 @@ use crate::bits::Register;
 use crate::record;
 use crate::record::Record;
 use phy::Control;
-use phy::ExtendedStatus;
 use phy::Phy;
 use phy::Status;
 use wire::Follower;
 use wire::Header;
 ghost use mathlib.Core.Path.{_≡_};
 ghost use mathlib.Core.Bool.{_&&_, cond};
-ghost use Rattle.phy.specs.Sound.{controlSound, registersStand, othersAtDefault, resetStands, followerSound, inOwnRead, phySound, zeros, huntsFresh, isBlank, blank};
-ghost use Rattle.phy.specs.Abilities.{one};
-ghost use Rattle.phy.specs.Control.{speedAble};
+ghost use Rattle.phy.specs.Sound.{controlRight, registersStand, othersAtDefault, resetStands, followerSound, inOwnRead, phySound, zeros, huntsFresh, isBlank, blank};
 ghost use Rattle.board.specs.Check.{passesAs};
 
 // Bits outside masks stand at default in registers above 1.
@@ -23,7 +20,7 @@ fn registers_stand(phy: Phy) -> bool
     let mut r: usize = 0;
     while r < Register::COUNT {
         let stands = bits::stands_outside(phy.masks[r], phy.registers[r], phy.defaults[r]);
-        if !((r <= 1) | stands) {
+        if !((r <= Register::STATUS) | stands) {
             return false;
         }
         r += 1;
@@ -31,40 +28,22 @@ fn registers_stand(phy: Phy) -> bool
     true
 }
 
-// Whether the speed of bits 6 and 13 is able.
-fn speed_able(control: u16, status: u16, extended: u16) -> bool
-    ensures { λ r. ⌜ r ≡ speedAble status extended (one 6 control) (one 13 control) ⌝ }
+// What register 0 is asked, by its word and those of registers 1 and 15.
+fn control_right(control: u16, status: u16, extended: u16) -> bool
+    ensures { λ r. ⌜ r ≡ controlRight control status extended ⌝ }
 {
-    if (control >> 6) % 2 == 1 {
-        if (control >> 13) % 2 == 1 {
-            return false;
-        }
-        return ExtendedStatus::able_1000(extended);
-    }
-    if (control >> 13) % 2 == 1 {
-        return Status::able_100(status);
-    }
-    Status::able_10(status)
-}
-
-// What register 0 is asked.
-fn control_sound(phy: Phy) -> bool
-    ensures { λ r. ⌜ r ≡ controlSound phy ⌝ }
-{
-    let control = phy.registers[0];
-    let status = phy.registers[1];
-    let extended = phy.registers[15];
-    let speed = speed_able(control, status, extended);
+    let speed = Control::speed_able(status, extended, control);
     let full = Status::able_full(status, extended);
     let half = Status::able_half(status, extended);
-    let negotiation = !((control >> 12) % 2 == 1) | ((status >> 3) % 2 == 1);
-    let restart = !((control >> 9) % 2 == 1) | ((control >> 12) % 2 == 1);
-    let duplex = (((control >> 8) % 2 == 1) | (half | !full))
-        & (!((control >> 8) % 2 == 1) | (full | !half));
-    let unidirection = !((control >> 5) % 2 == 1) | ((status >> 7) % 2 == 1);
-    speed
-        & (negotiation
-            & (restart & (duplex & (unidirection & (control % Register::CONTROL_RESERVED == 0)))))
+    let enabled = control & Control::AUTO_NEGOTIATION_ENABLE != 0;
+    let negotiation = !enabled | (status & Status::AUTO_NEGOTIATION_ABILITY != 0);
+    let restart = (control & Control::RESTART_AUTO_NEGOTIATION == 0) | enabled;
+    let duplex = ((control & Control::FULL_DUPLEX != 0) | (half | !full))
+        & ((control & Control::FULL_DUPLEX == 0) | (full | !half));
+    let unidirection = (control & Control::UNIDIRECTIONAL_ENABLE == 0)
+        | (status & Status::UNIDIRECTIONAL_ABILITY != 0);
+    let reserved = control & Control::RESERVED == 0;
+    speed & (negotiation & (restart & (duplex & (unidirection & reserved))))
 }
 
 // All registers but 0 stand at default.
@@ -73,7 +52,7 @@ fn others_at_default(phy: Phy) -> bool
 {
     let mut r: usize = 0;
     while r < Register::COUNT {
-        if !((r <= 0) | (phy.registers[r] == phy.defaults[r])) {
+        if !((r == Register::CONTROL) | (phy.registers[r] == phy.defaults[r])) {
             return false;
         }
         r += 1;
@@ -85,10 +64,13 @@ fn others_at_default(phy: Phy) -> bool
 fn reset_stands(phy: Phy) -> bool
     ensures { λ r. ⌜ r ≡ resetStands phy ⌝ }
 {
-    let control = phy.registers[0];
-    let stands = bits::stands_outside(Control::RESET, control, phy.defaults[0]);
+    let stands = bits::stands_outside(
+        Control::RESET,
+        phy.registers[Register::CONTROL],
+        phy.defaults[Register::CONTROL],
+    );
     let others = others_at_default(phy);
-    !((control >> 15) % 2 == 1) | (stands & (others & !phy.link))
+    !phy.in_reset() | (stands & (others & !phy.link))
 }
 
 // Hunting with 0 to 32 ones, or inside a frame with 1 to 31 bits, the first 0.
@@ -131,20 +113,21 @@ fn in_own_read(phy: Phy, follower: Follower) -> bool
 fn phy_sound(phy: Phy) -> bool
     ensures { λ r. ⌜ r ≡ phySound phy ⌝ }
 {
-    let control = phy.registers[0];
-    let status = phy.registers[1];
+    let control = phy.registers[Register::CONTROL];
+    let status = phy.registers[Register::STATUS];
     let follower = phy.follower;
     let registers = registers_stand(phy);
-    let status_stands = bits::stands_outside(Register::STATUS_MOVES, status, phy.defaults[1]);
-    let control_right = control_sound(phy);
+    let status_stands = bits::stands_outside(Status::HELD, status, phy.defaults[Register::STATUS]);
+    let control_stands = control_right(control, status, phy.registers[Register::EXTENDED_STATUS]);
     let reset = reset_stands(phy);
-    let complete = !((status >> 5) % 2 == 1)
-        | (((control >> 12) % 2 == 1) & !((control >> 9) % 2 == 1));
-    let link = !((status >> 2) % 2 == 1) | phy.link;
+    let complete = (status & Status::AUTO_NEGOTIATION_COMPLETE == 0)
+        | ((control & Control::AUTO_NEGOTIATION_ENABLE != 0)
+            & (control & Control::RESTART_AUTO_NEGOTIATION == 0));
+    let link = (status & Status::LINK_STATUS == 0) | phy.link;
     let follows = follower_sound(follower);
     let captured = in_own_read(phy, follower) | (phy.captured == 0);
     registers
-        & (status_stands & (control_right & (reset & (complete & (link & (follows & captured))))))
+        & (status_stands & (control_stands & (reset & (complete & (link & (follows & captured))))))
 }
 
 // Whether all words are zero.

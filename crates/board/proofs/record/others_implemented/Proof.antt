@@ -3,6 +3,7 @@ use mathlib.Core.Path.{_≡_, refl, sym}
 use mathlib.Core.Bool.{false, _&&_}
 use Prim.Native.Nat.{_≤_, _-_}
 use native.Mathlib.Omega.{arith}
+use lib.Dec.{leb·suc-suc}
 use Rattle.phy.specs.Abilities.{one}
 use Rattle.phy.specs.Record.{any, otherRegister, othersImplemented}
 use Rattle.phy.proofs.Every.{any-passes, any-next}
@@ -20,15 +21,12 @@ loop-holds : tie.Need-loop-holds Inv-loop μ-loop
 unfolding any
 loop-holds c = (search needs, refl)
 
-cast-there : tie.Need-cast-there Inv-loop μ-loop
-cast-there c = search needs
-
-shr-there : tie.Need-shr-there Inv-loop μ-loop
-shr-there c = search needs
+has-requires : tie.Need-has-requires Inv-loop μ-loop
+has-requires c κs = search needs
 
 returns : tie.Need-returns Inv-loop μ-loop
 unfolding othersImplemented
-returns c = sym (any-passes _ 32 (c .before .before .loop .r) (search needs) (c .if1 .taken))
+returns c = sym (any-passes _ 32 (c .before .before .before .loop .r) (search needs) (rw (c .before .has .ensures, leb·suc-suc _ 12) at (c .if1 .taken)))
 
 add-r : tie.Need-add-r Inv-loop μ-loop
 add-r c = search needs
@@ -37,7 +35,7 @@ loop-less : tie.Need-loop-less Inv-loop μ-loop
 loop-less c = search needs
 
 loop-again : tie.Need-loop-again Inv-loop μ-loop
-loop-again c = (search needs, any-next _ _ (c .before .before .loop .inv .1) (c .if1 .left))
+loop-again c = (search needs, any-next _ _ (c .before .before .before .loop .inv .1) (rw (c .before .has .ensures, leb·suc-suc _ 12) at (c .if1 .left)))
 
 returns-2 : tie.Need-returns-2 Inv-loop μ-loop
 unfolding othersImplemented
@@ -52,8 +50,7 @@ others-implemented-spec =
     Inv-loop
     μ-loop
     loop-holds
-    cast-there
-    shr-there
+    has-requires
     returns
     add-r
     loop-less

@@ -22,11 +22,8 @@ loop-holds : tie.Need-loop-holds Inv-loop μ-loop
 unfolding every
 loop-holds c = (search needs, refl)
 
-cast-there : tie.Need-cast-there Inv-loop μ-loop
-cast-there c = search needs
-
-shr-there : tie.Need-shr-there Inv-loop μ-loop
-shr-there c = search needs
+has-requires : tie.Need-has-requires Inv-loop μ-loop
+has-requires c κs = search needs
 
 mul-if1 : tie.Need-mul-if1 Inv-loop μ-loop
 mul-if1 c = search needs
@@ -42,7 +39,7 @@ array-read-if1-2 c = search needs
 
 returns : tie.Need-returns Inv-loop μ-loop
 unfolding unimplementedZero
-returns c = sym (every-fails _ 32 (c .before .before .loop .r) (search needs) (not-true _ (c .if1 .taken)))
+returns c = sym (every-fails _ 32 (c .before .before .before .loop .r) (search needs) (not-true _ (rw (c .before .has .ensures) at (c .if1 .taken))))
 
 add-r : tie.Need-add-r Inv-loop μ-loop
 add-r c = search needs
@@ -51,7 +48,7 @@ loop-less : tie.Need-loop-less Inv-loop μ-loop
 loop-less c = search needs
 
 loop-again : tie.Need-loop-again Inv-loop μ-loop
-loop-again c = (search needs, every-next _ _ (c .before .before .loop .inv .1) (not-false _ (c .if1 .left)))
+loop-again c = (search needs, every-next _ _ (c .before .before .before .loop .inv .1) (not-false _ (rw (c .before .has .ensures) at (c .if1 .left))))
 
 returns-2 : tie.Need-returns-2 Inv-loop μ-loop
 unfolding unimplementedZero
@@ -66,8 +63,7 @@ unimplemented-zero-spec =
     Inv-loop
     μ-loop
     loop-holds
-    cast-there
-    shr-there
+    has-requires
     mul-if1
     array-read-if1
     mul-if1-2

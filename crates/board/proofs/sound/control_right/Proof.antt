@@ -1,17 +1,9 @@
--- Each test is its clause of `controlSound`.
-use Rattle.phy.specs.Sound.{controlSound}
+-- Each test is its clause of `controlRight`.
+use lib.Bits.{and-mask}
+use Rattle.phy.proofs.Words.{has-bit, has-no-bit}
 use borrow.Author.Needs.{needs}
-use Rattle.board.proofs.sound.control_sound.Statement.{statement}
-use Rattle.board.proofs.sound.control_sound.Tie as tie
-
-element-copy-out-control : tie.Need-element-copy-out-control
-element-copy-out-control c = search needs
-
-element-copy-out-status : tie.Need-element-copy-out-status
-element-copy-out-status c = search needs
-
-element-copy-out-extended : tie.Need-element-copy-out-extended
-element-copy-out-extended c = search needs
+use Rattle.board.proofs.sound.control_right.Statement.{statement}
+use Rattle.board.proofs.sound.control_right.Tie as tie
 
 speed-able-requires : tie.Need-speed-able-requires
 speed-able-requires c κs = search needs
@@ -23,16 +15,25 @@ able-half-requires : tie.Need-able-half-requires
 able-half-requires c κs = search needs
 
 returns : tie.Need-returns
-unfolding controlSound
-returns c = rw (c .before .before .speed-able .ensures, c .before .able-full .ensures, c .able-half .ensures)
+returns c =
+    rw (
+      c .before .before .speed-able .ensures,
+      c .before .able-full .ensures,
+      c .able-half .ensures,
+      has-bit 12,
+      has-bit 3,
+      has-no-bit 9,
+      has-bit 8,
+      has-no-bit 8,
+      has-no-bit 5,
+      has-bit 7,
+      and-mask (c .before .before .before .args .control) 5,
+    )
 
-pub control-sound-spec : {M : Type 1} → statement M
-control-sound-spec =
+pub control-right-spec : {M : Type 1} → statement M
+control-right-spec =
     tie.close
     (tie.spec
-    element-copy-out-control
-    element-copy-out-status
-    element-copy-out-extended
     speed-able-requires
     able-full-requires
     able-half-requires
