@@ -1,6 +1,6 @@
 -- The list file: what a parse says of its record, and what an accepted list is.
 use Prim.Native.Nat.{ℕ, zero, suc, _+_, _*_, _≤_, _<_}
-use mathlib.Core.Path.{_≡_, refl, ap, sym, _∙_}
+use mathlib.Core.Path.{_≡_, refl, ap, ap₂, sym, _∙_}
 use mathlib.Core.List.{List, []}
 use native.Mathlib.Omega.{arith}
 use lib.ListN.{length, drop, getD, drop-of-length-le, List·getD-eq-default}
@@ -12,7 +12,7 @@ use Rattle.frame.specs.declared.list.Transaction.{Transaction}
 use Rattle.frame.specs.declared.list.Parse.the-variants.{Good, Bad}
 use Rattle.frame.specs.declared.answer.Answer.{Answer}
 use Rattle.frame.specs.Answers.{answerRecord, answerBytes, putIn}
-use Rattle.frame.specs.List.{listRecord, mostTransactions, zeroByteAt, recordFault, parseOf, parsed, refusalOf, transactionAt, listVerdict}
+use Rattle.frame.specs.List.{listRecord, mostTransactions, faultOf, recordFault, parseOf, parsed, refusalOf, transactionAt, listVerdict}
 
 -- a parse tells what the checks found of its record
 pub refusal-parsed : (list : List ℕ) (k : ℕ) → refusalOf (parsed list k) ≡ recordFault list k
@@ -51,8 +51,7 @@ none-past list k past =
 pub parsed-past : (list : List ℕ) (k : ℕ) → length list ≤ k * listRecord → parsed list k ≡ Bad wrongOp
 unfolding parsed recordFault
 parsed-past list k past =
-    let zero-byte : zeroByteAt list k ≡ 0 = List·getD-eq-default list 0 (omega arith) in
-    rw (none-past list k past, zero-byte)
+    ap₂ (λ t zero-byte. parseOf (faultOf t zero-byte) t) (none-past list k past) (List·getD-eq-default list 0 (omega arith))
 
 -- a record that just fits its part fills it
 pub put-fills : (part : List ℕ) (a : Answer) → length part ≡ answerRecord → putIn part a ≡ answerBytes a
