@@ -16,6 +16,7 @@ use Rattle.phy.specs.declared.Phy.{Phy}
 use Rattle.phy.specs.Abilities.{one}
 use Rattle.phy.specs.Record.{every}
 use Rattle.phy.specs.Sound.{standsOutside, statusStands, inOwnRead, phySound, nowhere}
+use Rattle.phy.specs.Own.{takes}
 use Rattle.phy.specs.Typed.{Typed, Steady, StatusFixed}
 use Rattle.phy.specs.Clock.{phyCore}
 use Rattle.phy.proofs.Every.{every-each}
@@ -24,7 +25,7 @@ use Rattle.board.specs.declared.Board.{Board}
 use Rattle.board.specs.Check.{placeAt, checked}
 use Rattle.board.specs.Typed.{TypedBoard}
 use Rattle.board.proofs.Soundness.{Sound, check-sound, used-place, addresses-differ}
-use Rattle.machine.specs.Outcome.{physOf}
+use Rattle.between.specs.Outcome.{physOf}
 use Rattle.agreement.specs.Follows.{Waits, OneAnswers}
 use Rattle.agreement.specs.Phys.{phyLine}
 use Rattle.agreement.specs.Demand3.{Hunts}
@@ -50,13 +51,13 @@ status-fixed phy stands i small a b c d =
 -- a sound PHY rests on its words, and has nothing captured while it hunts
 steady : (phy : Phy) → Typed phy → phySound phy ≡ true → Steady phy
 steady phy typed sound =
-    record { defaults = typed .defaults; registers = typed .registers; fixed = status-fixed phy (sound-clauses phy sound .bank .status-stands) }
+    record { words = typed .words; fixed = status-fixed phy (sound-clauses phy sound .bank .status-stands) }
 
 empty : (phy : Phy) (ones : ℕ) → phySound phy ≡ true → phy .follower ≡ Hunting ones → phy .captured ≡ 0
 unfolding inOwnRead
 empty phy ones sound hunts =
     let clause = sound-clauses phy sound .captured-sound in
-    let away : inOwnRead phy (phy .follower) ≡ false = ap (inOwnRead phy) hunts in
+    let away : inOwnRead (phy .own) (phy .follower) ≡ false = ap (inOwnRead (phy .own)) hunts in
     eqb-true _ 0 (stands-at _ _ clause away)
 
 module _ (board : Board) (n : ℕ) (passes : checked board ≡ Done n) where
@@ -80,5 +81,6 @@ module _ (board : Board) (n : ℕ) (passes : checked board ≡ Done n) where
 
   pub one-answers : (happens : ℕ → Phy → Phy) → OneAnswers (phyCore happens) (physOf board)
   one-answers happens =
-      phys-one happens (physOf board) nowhere (λ i j before h same. addresses-differ board sound i j before (within j h)
-      (sym (ap (λ (phy : Phy). phy .address) (place i (omega arith))) ∙ same ∙ ap (λ (phy : Phy). phy .address) (place j h)))
+      phys-one happens (physOf board) nowhere (λ i j before h address one other. addresses-differ board sound i j before (within j h) address
+      (ap (λ (phy : Phy). takes address (phy .own)) (sym (place i (omega arith))) ∙ one)
+      (ap (λ (phy : Phy). takes address (phy .own)) (sym (place j h)) ∙ other))

@@ -6,7 +6,7 @@ use Prim.Native.Nat.{ℕ}
 use lib.Dec.{eqb}
 use borrow.Author.Tests.{eqb-true}
 use Rattle.verdict.specs.Lists.{All}
-use Rattle.machine.specs.Computing.{computing}
+use Rattle.machines.specs.Computing.{computing}
 use Rattle.agreement.specs.Cases.{Row, table, Holds, same, right, allRight}
 
 -- the one statement: every row of the table is right

@@ -24,14 +24,14 @@ use Rattle.wire.specs.Wire.{Party, asBit, levelOf, drivers, runs, driven}
 use Rattle.wire.specs.Machines.{clocksOf}
 use Rattle.phy.specs.declared.Phy.{Phy}
 use Rattle.board.specs.declared.Board.{Board}
-use Rattle.machine.specs.Outcome.{physOf}
-use Rattle.machine.specs.Events.{happens}
-use Rattle.machine.specs.Run.{partyWith, stationDrives, atStart, logOfRun, physAfterRun}
-use Rattle.machine.specs.Plain.{coreWith, answersOfPlain, physAfterPlain}
-use Rattle.machine.proofs.HappensEffect.{happens-effect}
-use Rattle.machine.proofs.Kept.{plain-followers}
-use Rattle.machine.proofs.Lockstep.{drivesIn, driven-at}
-use Rattle.machine.proofs.RunLaws.{log-length, log-level, log-uncontended}
+use Rattle.between.specs.Outcome.{physOf}
+use Rattle.between.specs.Events.{happens, atStart}
+use Rattle.wire_machine.specs.Run.{partyWith, stationDrives, logOfRun, physAfterRun}
+use Rattle.plain_machine.specs.Plain.{coreWith, answersOfPlain, physAfterPlain}
+use Rattle.between.proofs.HappensEffect.{happens-effect}
+use Rattle.plain_machine.proofs.Kept.{plain-followers}
+use Rattle.wire_machine.proofs.Lockstep.{drivesIn, driven-at}
+use Rattle.wire_machine.proofs.RunLaws.{log-length, log-level, log-uncontended}
 use Rattle.agreement.specs.Levels.{at}
 use Rattle.agreement.specs.Agrees.{AgreesAll, stationForAll, rest, settled}
 use Rattle.agreement.specs.Phys.{phyLine}

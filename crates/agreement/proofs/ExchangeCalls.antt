@@ -20,20 +20,20 @@ use Rattle.verdict.proofs.Lists.{all-join}
 use Rattle.frame.specs.declared.list.Transaction.{Transaction}
 use Rattle.frame.specs.Frame.{preamble, clocks, logRecord, logPartBytes}
 use Rattle.frame.specs.List.{mostTransactions, isRead, listVerdict, transactions}
-use Rattle.frame.specs.Steps.{release, opSteps, turnaroundSteps, dataSteps, table, stepsOf, translation, translating, Translated}
+use Rattle.frame.specs.Steps.{release, opSteps, turnaroundSteps, dataSteps, table, stepsOf, translation, translating, Translated, mostSteps, largestStep}
 use Rattle.frame.specs.Answers.{answerRecord, answerBytes, decoding, Decoded}
 use Rattle.frame.proofs.Lists.{accepted-list}
 use Rattle.frame.proofs.Laws.{length-translation}
 use Rattle.board.specs.declared.Board.{Board}
 use Rattle.board.specs.Check.{checked}
 use Rattle.board.specs.Events.{eventsVerdict}
-use Rattle.machine.specs.declared.Outcome.{Outcome}
-use Rattle.machine.specs.Outcome.{outcomeOf, withPhys}
-use Rattle.machine.specs.Run.{mostSteps, largestStep, stepsVerdict, running, logOfRun, Ran}
-use Rattle.machine.specs.Plain.{planning}
-use Rattle.machine.proofs.Accepts.{room-done}
-use Rattle.machine.proofs.RunLaws.{log-length}
-use Rattle.agreement.specs.Exchange.{sendVerdict, sending, logOfExchange, physAfterExchange, Sent, answersOfExchange, Exchanged}
+use Rattle.between.specs.declared.Outcome.{Outcome}
+use Rattle.between.specs.Outcome.{outcomeOf}
+use Rattle.wire_machine.specs.Run.{stepsVerdict, running, logOfRun, Ran}
+use Rattle.verdict.proofs.Outputs.{room-done}
+use Rattle.plain_machine.specs.Plain.{planning}
+use Rattle.wire_machine.proofs.RunLaws.{log-length}
+use Rattle.agreement.specs.Exchange.{sendVerdict, sending, logOfExchange, boardAfterExchange, Sent, answersOfExchange, Exchanged}
 
 -- every step of a translation is one of the four
 abbrev OneOfFour : ℕ → Type 0
@@ -168,7 +168,7 @@ pub record Logged (before : Board) (list events out : List ℕ) (m : ℕ) (after
   pub count : ℕ
   pub passes : sendVerdict before list events ≡ Done count
   pub log : Starts out (logOfExchange before list events) m
-  pub board : after ≡ withPhys before (physAfterExchange before list events)
+  pub board : after ≡ boardAfterExchange before list events
 
 module _ (before : Board) (list events : List ℕ) where
   module _ {room out : List ℕ} {r : Outcome} (long : length room ≡ mostSteps * logRecord) (sent : Sent before list events room r out) where
@@ -205,7 +205,7 @@ module _ (before : Board) (list events : List ℕ) where
     written-planned : Writes (planning before list events out) (join (map answerBytes (answersOfExchange before list events))) out answer out′
     written-planned = record { verdict = sym answer-planned; output = decoded .output ∙ rw (room-left, held) }
 
-    pub exchanged : {m : ℕ} {after : Board} → answer ≡ Done m → after ≡ withPhys before (physAfterExchange before list events) → Exchanged before list events out (outcomeOf answer after) out′
+    pub exchanged : {m : ℕ} {after : Board} → answer ≡ Done m → after ≡ boardAfterExchange before list events → Exchanged before list events out (outcomeOf answer after) out′
     exchanged e left = record { writes = written-planned; board = rw (answer-planned, e) left }
 
     pub not-decoded : {c k : ℕ} → answer ≡ Refused c k → Exchanged before list events out (outcomeOf answer before) out′

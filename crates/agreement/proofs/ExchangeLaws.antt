@@ -25,14 +25,15 @@ use Rattle.board.specs.Check.{checked}
 use Rattle.board.specs.Typed.{TypedBoard}
 use Rattle.board.proofs.LoadSound.{load-sound}
 use Rattle.board.proofs.LoadTyped.{load-typed}
-use Rattle.machine.specs.declared.Outcome.{Outcome}
-use Rattle.machine.specs.Outcome.{outcomeOf, physOf, withPhys, boardAfter}
-use Rattle.machine.specs.Plain.{planning, answersOfPlain, physAfterPlain, Planned}
-use Rattle.machine.proofs.Laws.{hands-back-unique}
-use Rattle.machine.proofs.Places.{phys-of-with}
-use Rattle.machine.proofs.SoundBoards.{SoundBoard, handed-back-sound, run-keeps}
+use Rattle.between.specs.declared.Outcome.{Outcome}
+use Rattle.between.specs.Outcome.{outcomeOf, physOf, withPhys, handedBack}
+use Rattle.wire_machine.specs.Run.{physAfterRun}
+use Rattle.plain_machine.specs.Plain.{planning, answersOfPlain, physAfterPlain, boardAfterPlain, Planned}
+use Rattle.between.proofs.Laws.{hands-back-unique}
+use Rattle.between.proofs.Places.{phys-of-with}
+use Rattle.machines.proofs.SoundBoards.{SoundBoard, handed-back-sound, run-sound}
 use Rattle.agreement.specs.Demand3.{Hunts, Demand3, registersOf, linksOf, followersOf, endsHunting}
-use Rattle.agreement.specs.Exchange.{physAfterExchange, Sent, answersOfExchange, Exchanged, SameAsPlain}
+use Rattle.agreement.specs.Exchange.{boardAfterExchange, Sent, answersOfExchange, Exchanged, SameAsPlain}
 use Rattle.agreement.proofs.Demand3.{demand-3}
 
 -- two results that meet the promise of `send` are equal, as are the logs
@@ -90,11 +91,11 @@ module _ (board : Board) (list events out : List ℕ) (typed : TypedBoard board)
 
   -- what the two promise, whatever the answer
   same-after : (v : Verdict) → planning board list events out ≡ v →
-      SameAsPlain (outcomeOf v (boardAfter v board (physAfterExchange board list events))) (outcomeOf v (boardAfter v board (physAfterPlain board list events)))
+      SameAsPlain (outcomeOf v (handedBack v (boardAfterExchange board list events) board)) (outcomeOf v (handedBack v (boardAfterPlain board list events) board))
       (outputAfter v (join (map answerBytes (answersOfExchange board list events))) out) (outputAfter v (join (map answerBytes (answersOfPlain board list events))) out)
   same-after (Done n) e =
       let holds = demanded e in
-      let on-wire = physAfterExchange board list events in
+      let on-wire = physAfterRun board (translation list) events in
       let without = physAfterPlain board list events in
       record {
         verdict = refl;
@@ -121,10 +122,10 @@ module _ (board : Board) (list events out : List ℕ) (typed : TypedBoard board)
   pub exchange-hunts : {r : Outcome} {out′ : List ℕ} → Exchanged board list events out r out′ → All Hunts (physOf (r .board))
   exchange-hunts p = subst (λ b. All Hunts (physOf b)) (sym (p .board)) (go (planning board list events out) refl)
     where
-      go : (v : Verdict) → planning board list events out ≡ v → All Hunts (physOf (boardAfter v board (physAfterExchange board list events)))
+      go : (v : Verdict) → planning board list events out ≡ v → All Hunts (physOf (handedBack v (boardAfterExchange board list events) board))
       go (Refused c k) e = hunt
       go (Done n) e =
-          let after = physAfterExchange board list events in
+          let after = physAfterRun board (translation list) events in
           let ends = demanded e .hunting in
           let same : length after ≡ length (physOf board) = sym (length-map after (λ phy. phy .follower)) ∙ ap length ends ∙ ends-length (transactions list) board in
           subst (All Hunts) (sym (phys-of-with board after same)) (all-hunt after (subst (All HuntsIn) (sym ends) (ends-hunt (transactions list) board hunt)))
@@ -132,10 +133,10 @@ module _ (board : Board) (list events out : List ℕ) (typed : TypedBoard board)
 -- "Every call keeps it": a list sent is a run of translated steps or a refusal, and so is an exchange
 module _ {n : ℕ} {board : Board} (list events : List ℕ) {out : List ℕ} {r : Outcome} {out′ : List ℕ} where
   pub send-sound : SoundBoard n board → Sent board list events out r out′ → SoundBoard n (r .board)
-  send-sound is sent = handed-back-sound is (run-keeps is events (translation list)) sent
+  send-sound is sent = handed-back-sound is (run-sound is events (translation list)) sent
 
   pub exchange-sound : SoundBoard n board → Exchanged board list events out r out′ → SoundBoard n (r .board)
-  exchange-sound is exchanged = handed-back-sound is (run-keeps is events (translation list)) exchanged
+  exchange-sound is exchanged = handed-back-sound is (run-sound is events (translation list)) exchanged
 
   -- so after an exchange the board is ready for another, which again answers as `plain` does
   pub exchange-ready : ((i : ℕ) → byteAt list i < 256) → ReadyBoard n board → Exchanged board list events out r out′ → ReadyBoard n (r .board)

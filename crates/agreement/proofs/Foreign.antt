@@ -23,10 +23,10 @@ use Rattle.phy.specs.Typed.{Steady}
 use Rattle.phy.proofs.Effects.{Effect}
 use Rattle.phy.proofs.Foreign.{Foreign, foreign-on, start-00, foreign-released, foreign-clock, foreign-last, one-clock}
 use Rattle.board.specs.declared.Board.{Board}
-use Rattle.machine.specs.Outcome.{physOf}
-use Rattle.machine.specs.Events.{happens}
-use Rattle.machine.specs.Run.{partyWith, stationDrives, atStart}
-use Rattle.machine.proofs.HappensEffect.{happens-effect}
+use Rattle.between.specs.Outcome.{physOf}
+use Rattle.between.specs.Events.{happens, atStart}
+use Rattle.wire_machine.specs.Run.{partyWith, stationDrives}
+use Rattle.between.proofs.HappensEffect.{happens-effect}
 use Rattle.agreement.specs.Follows.{Follows, Ready}
 use Rattle.agreement.specs.Phys.{phyLine}
 use Rattle.agreement.specs.Foreign.{ForeignAsked, StationAlone, levelAlone, PassedOver}
@@ -58,7 +58,7 @@ module _ (happenings : ℕ → Phy → Phy) (events : (c : ℕ) → Effect (happ
       let end : suc (c + 29) ≡ c′ = omega arith in
       goes-as (phyParty happenings)
       (through laws (λ p. false) 0 (λ c p. refl) false 31 Foreign (λ bits. withLine (Hunting 0) 0)
-      (λ seen bits p f. foreign-released _ seen bits refl f)
+      (λ seen bits p f. foreign-released (withLine (Inside seen bits) 0 p) seen bits refl f)
       (λ level seen bits p f before. foreign-clock level seen bits 0 p f before)
       foreign-on
       (λ level bits p f. foreign-last level 31 bits 0 p f refl)
@@ -95,7 +95,7 @@ module _ (happenings : ℕ → Phy → Phy) (events : (c : ℕ) → Effect (happ
   released : (seen bits : ℕ) (ps : List Phy) → Foreign seen bits → All (λ e. e ≡ Released) (map drives (map (withLine (Inside seen bits) 0) ps))
   released seen bits ps f =
       all-map (λ p. drives p ≡ Released) (λ e. e ≡ Released) drives (map (withLine (Inside seen bits) 0) ps) (λ p e. e)
-      (all-map-of (λ p. drives p ≡ Released) (withLine (Inside seen bits) 0) ps (λ p. foreign-released _ seen bits refl f))
+      (all-map-of (λ p. drives p ≡ Released) (withLine (Inside seen bits) 0) ps (λ p. foreign-released (withLine (Inside seen bits) 0 p) seen bits refl f))
 
   passes-alone : (ds : List Drive) (seen bits c : ℕ) (ps : List Phy) → Foreign seen bits → seen + length ds ≤ 32 →
       All StationAlone (driven (phyParty happenings) ds c (map (withLine (Inside seen bits) 0) ps))

@@ -1,31 +1,27 @@
 -- A PHY follows frames, whatever its events are, if they are effects: each law is one that the PHY's crate shows.
 use Prim.Native.Nat.{ℕ, _<_}
-use mathlib.Core.Path.{_≡_, refl, sym, _∙_}
-use mathlib.Core.Bool.{true, _&&_}
+use mathlib.Core.Path.{_≡_, refl, ap}
+use mathlib.Core.Bool.{true}
 use mathlib.Core.List.{List}
 use native.Mathlib.Omega.{arith}
-use lib.Dec.{eqb}
 use lib.ListN.{length, getD}
-use borrow.Author.Tests.{eqb-true}
 use Rattle.verdict.proofs.Elements.{count-one}
-use Rattle.frame.specs.List.{read}
 use Rattle.wire.specs.declared.Header.{Header}
-use Rattle.wire.specs.Follower.{ourStart, answering}
+use Rattle.wire.specs.Follower.{answering}
 use Rattle.phy.specs.declared.Phy.{Phy}
-use Rattle.phy.specs.Registers.{implements}
-use Rattle.phy.specs.Clock.{enough, isOwn, answers, phyParty, phyCore}
+use Rattle.phy.specs.Own.{takes, answers}
+use Rattle.phy.specs.Clock.{enough, phyParty, phyCore}
 use Rattle.phy.specs.Typed.{Steady}
-use Rattle.phy.proofs.Every.{both}
 use Rattle.phy.proofs.Effects.{Effect, afterHeader-effect, afterFrame-effect}
-use Rattle.phy.proofs.Headers.{answers-reads-only, write-header, read-frame}
-use Rattle.phy.proofs.Keeping.{enough-most, keeps-answers, keeps-enough, keeps-steady, line-steady}
+use Rattle.phy.proofs.Headers.{answers-taken, answers-reads-only, write-header, read-frame}
+use Rattle.phy.proofs.Keeping.{enough-most, keeps-own, keeps-enough, keeps-steady, line-steady, word-small}
 use Rattle.phy.proofs.Lines.{drives-line-hunting, drives-line, clock-hunting, clock-inside, clock-header, clock-frame}
 use Rattle.agreement.specs.Follows.{Fields, Driving, Sampling, Keeps, Follows, OneAnswers}
 use Rattle.agreement.specs.Phys.{phyLine}
 
 module _ (happens : ℕ → Phy → Phy) (events : (c : ℕ) → Effect (happens c)) where
   fields : Fields (phyParty happens) (phyCore happens) phyLine Steady
-  unfolding enough answers implements
+  unfolding enough
   fields =
       record {
         follower = λ f w phy. refl;
@@ -57,7 +53,7 @@ module _ (happens : ℕ → Phy → Phy) (events : (c : ℕ) → Effect (happens
         put = effect .blind;
         good = keeps-steady effect;
         enough = λ phy steady. keeps-enough effect phy (steady .fixed);
-        answers = λ h phy. keeps-answers effect phy h;
+        answers = λ h phy. ap (answers h) (keeps-own effect phy);
       }
 
   pub phy-follows : Follows (phyParty happens) (phyCore happens) phyLine Steady
@@ -71,23 +67,14 @@ module _ (happens : ℕ → Phy → Phy) (events : (c : ℕ) → Effect (happens
         keeps-frame = λ h w. keeps (afterFrame-effect h w);
         keeps-events = λ c. keeps (events c);
         few-enough = λ phy steady. enough-most phy;
-        word-fits = λ h phy steady. steady .registers .small (h .register);
-        write-unanswered = λ h phy op. answers-reads-only h phy (λ read. omega arith);
+        word-fits = λ h phy steady. word-small h phy (steady .words);
+        write-unanswered = λ h phy op. answers-reads-only h (phy .own) (λ read. omega arith);
         write-header = write-header;
         read-end = read-frame;
       }
 
--- a PHY answers at its own address alone
-answers-own : (h : Header) (phy : Phy) → answers h phy ≡ true → h .address ≡ phy .address
-unfolding answers
-answers-own h phy e =
-    let here = eqb (h .address) (phy .address) in
-    let own = both (isOwn read h phy) (implements (h .register) phy) e .0 in
-    let asked = both (eqb (h .start) ourStart) (eqb (h .op) read && here) own .1 in
-    eqb-true (h .address) (phy .address) (both (eqb (h .op) read) here asked .1)
-
--- of PHYs at different addresses at most one answers
+-- of PHYs that never take the same address at most one answers
 pub phys-one : (happens : ℕ → Phy → Phy) (phys : List Phy) (d : Phy) →
-    ((i j : ℕ) → i < j → j < length phys → getD phys i d .address ≡ getD phys j d .address → ⊥) → OneAnswers (phyCore happens) phys
+    ((i j : ℕ) → i < j → j < length phys → (address : ℕ) → takes address (getD phys i d .own) ≡ true → takes address (getD phys j d .own) ≡ true → ⊥) → OneAnswers (phyCore happens) phys
 phys-one happens phys d apart h =
-    count-one (answers h) phys d (λ i j before within one other. apart i j before within (sym (answers-own h (getD phys i d) one) ∙ answers-own h (getD phys j d) other))
+    count-one (λ phy. answers h (phy .own)) phys d (λ i j before within one other. apart i j before within (h .address) (answers-taken h (getD phys i d .own) one) (answers-taken h (getD phys j d .own) other))

@@ -13,8 +13,8 @@ use Rattle.frame.specs.Answers.{answered, silent, sent, answerBytes, answersIn}
 use Rattle.board.specs.declared.Board.{Board}
 use Rattle.board.specs.Load.{loaded}
 use Rattle.phy.specs.Events.{linkUp, linkDown, restartDone, resetDone}
-use Rattle.machine.specs.Run.{logOfRun}
-use Rattle.machine.specs.Plain.{planning, answersOfPlain}
+use Rattle.wire_machine.specs.Run.{logOfRun}
+use Rattle.plain_machine.specs.Plain.{planning, answersOfPlain}
 
 -- a word, high byte first
 abbrev pub twoBytes : ℕ → List ℕ

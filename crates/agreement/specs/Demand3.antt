@@ -18,9 +18,10 @@ use Rattle.phy.specs.declared.Phy.{Phy}
 use Rattle.board.specs.declared.Board.{Board}
 use Rattle.board.specs.Check.{checked}
 use Rattle.board.specs.Typed.{TypedBoard}
-use Rattle.machine.specs.Outcome.{physOf}
-use Rattle.machine.specs.Run.{partyWith, stationDrives, atStart, logOfRun, physAfterRun}
-use Rattle.machine.specs.Plain.{answersOfPlain, physAfterPlain}
+use Rattle.between.specs.Outcome.{physOf}
+use Rattle.wire_machine.specs.Run.{partyWith, stationDrives, logOfRun, physAfterRun}
+use Rattle.between.specs.Events.{atStart}
+use Rattle.plain_machine.specs.Plain.{answersOfPlain, physAfterPlain}
 
 -- a PHY that hunts, with any number of ones
 pub record Hunts (phy : Phy) : Type 0 where

@@ -11,14 +11,13 @@ use Rattle.frame.specs.Frame.{clocks, logRecord}
 use Rattle.frame.specs.List.{listVerdict}
 use Rattle.frame.specs.Steps.{translation}
 use Rattle.frame.specs.Answers.{answerBytes, answersIn}
-use Rattle.phy.specs.declared.Phy.{Phy}
 use Rattle.board.specs.declared.Board.{Board}
 use Rattle.board.specs.Check.{checked}
 use Rattle.board.specs.Events.{eventsVerdict}
-use Rattle.machine.specs.declared.Outcome.{Outcome}
-use Rattle.machine.specs.Outcome.{HandsBack}
-use Rattle.machine.specs.Run.{logOfRun, physAfterRun}
-use Rattle.machine.specs.Plain.{planning}
+use Rattle.between.specs.declared.Outcome.{Outcome}
+use Rattle.between.specs.Outcome.{HandsBack}
+use Rattle.wire_machine.specs.Run.{logOfRun, boardAfterRun}
+use Rattle.plain_machine.specs.Plain.{planning}
 use Rattle.agreement.specs.Demand3.{registersOf, linksOf}
 
 -- 12, then the list, then the events with 65n as the last clock; done says how many transactions are sent
@@ -37,14 +36,14 @@ sending board list events out = andThen (sendVerdict board list events) (λ n. r
 abbrev pub logOfExchange : Board → List ℕ → List ℕ → List ℕ
 logOfExchange board list events = logOfRun board (translation list) events
 
--- the PHYs after its last clock
-abbrev pub physAfterExchange : Board → List ℕ → List ℕ → List Phy
-physAfterExchange board list events = physAfterRun board (translation list) events
+-- the board after its last clock
+abbrev pub boardAfterExchange : Board → List ℕ → List ℕ → Board
+boardAfterExchange board list events = boardAfterRun board (translation list) events
 
 -- what `send` promises
 abbrev pub Sent : Board → List ℕ → List ℕ → List ℕ → Outcome → List ℕ → Type 0
 Sent board list events out r out′ =
-    HandsBack (sending board list events out) (logOfExchange board list events) (physAfterExchange board list events) board out r out′
+    HandsBack (sending board list events out) (logOfExchange board list events) (boardAfterExchange board list events) board out r out′
 
 -- the answers that the log holds
 abbrev pub answersOfExchange : Board → List ℕ → List ℕ → List Answer
@@ -53,7 +52,7 @@ answersOfExchange board list events = answersIn list (logOfExchange board list e
 -- what `exchange` promises
 abbrev pub Exchanged : Board → List ℕ → List ℕ → List ℕ → Outcome → List ℕ → Type 0
 Exchanged board list events out r out′ =
-    HandsBack (planning board list events out) (join (map answerBytes (answersOfExchange board list events))) (physAfterExchange board list events) board out r out′
+    HandsBack (planning board list events out) (join (map answerBytes (answersOfExchange board list events))) (boardAfterExchange board list events) board out r out′
 
 -- what `exchange` and `plain` have in common: answer, output, and in every place of the board the registers and the link
 pub record SameAsPlain (exchanged planned : Outcome) (out₁ out₂ : List ℕ) : Type 0 where

@@ -17,9 +17,10 @@ use Rattle.phy.specs.Fields.{withLine}
 use Rattle.board.specs.declared.Board.{Board}
 use Rattle.board.specs.Check.{checked}
 use Rattle.board.specs.Typed.{TypedBoard}
-use Rattle.machine.specs.Outcome.{physOf}
-use Rattle.machine.specs.Run.{partyWith, stationDrives, atStart, physAfterRun}
-use Rattle.machine.specs.Plain.{coreWith}
+use Rattle.between.specs.Outcome.{physOf}
+use Rattle.wire_machine.specs.Run.{partyWith, stationDrives, physAfterRun}
+use Rattle.between.specs.Events.{atStart}
+use Rattle.plain_machine.specs.Plain.{coreWith}
 use Rattle.agreement.specs.Demand3.{Hunts}
 
 -- a whole preamble, a start of 00, and whatever the station does in the frame's other clocks

@@ -1,19 +1,19 @@
 // Demand 3: the machine on the wire and the plain machine agree. Here are its statements and proofs, and the calls that
 // they speak of: a list sent over the wire, and its answers heard there.
+use between::Outcome;
 use board::Board;
 use board::check;
 use frame::Frame;
+use frame::Steps;
 use frame::decode;
 use frame::translate;
-use machine::Outcome;
-use machine::Steps;
-use machine::run;
 use verdict::Verdict;
+use wire_machine::run;
 ghost use mathlib.Core.Path.{_≡_};
 ghost use Prim.Native.Nat.{_*_};
 ghost use lib.ListN.{length};
 ghost use Rattle.frame.specs.Frame.{logRecord};
-ghost use Rattle.machine.specs.Run.{mostSteps};
+ghost use Rattle.frame.specs.Steps.{mostSteps};
 ghost use Rattle.agreement.specs.Exchange.{Sent, Exchanged};
 
 // Room for the steps of the longest list, and for their log.

@@ -1,4 +1,6 @@
 pub mod Records
+pub mod Turns
+pub mod Taken
 pub mod Loading
 pub mod Soundness
 pub mod LoadSound

@@ -21,7 +21,7 @@ use Rattle.phy.proofs.Every.{both, neither}
 use Rattle.phy.proofs.Fresh.{fresh-sound}
 use Rattle.board.specs.Record.{fieldsWrong}
 use Rattle.board.specs.Check.{places, placeAt, recordPasses, placeSound, checked}
-use Rattle.board.specs.Load.{boardRecord, zeroByteAt, phyAt, usedBefore, recordFault, boardVerdict, boardOf, noPhys, loadedBy, loaded}
+use Rattle.board.specs.Load.{boardRecord, zeroByteAt, defaultsAt, recordAt, phyAt, usedBefore, recordFault, boardVerdict, boardOf, noPhys, loadedBy, loaded}
 use Rattle.board.proofs.Loading.{loaded-at, used-before}
 use Rattle.board.proofs.Soundness.{Sound, Passes, sound-check, no-fault-passes, passes-no-fault}
 
@@ -53,32 +53,32 @@ module _ (file : List ℕ) (n : ℕ) (done : boardVerdict file ≡ Done n) where
   unfolding placeSound boardOf
   unused-sound k h l = rw (le-leb n k h, place-blank k h l) blank-blank
 
-  record-passes : (k : ℕ) → k < n → Passes (zeroByteAt file k) (usedBefore file k) (phyAt file k)
+  record-passes : (k : ℕ) → k < n → Passes (zeroByteAt file k) (usedBefore file k) (recordAt file k)
   unfolding recordFault
   record-passes k l = no-fault-passes _ _ _ (accepted boardRecord places (recordFault file) file n done .all-pass k l)
 
-  words-right : (k : ℕ) → k < n → wordsRight (word (phyAt file k .defaults) 0) (word (phyAt file k .defaults) 1) (word (phyAt file k .defaults) 15) ≡ true
+  words-right : (k : ℕ) → k < n → wordsRight (word (defaultsAt file k) 0) (word (defaultsAt file k) 1) (word (defaultsAt file k) 15) ≡ true
   unfolding defaultsRight
   words-right k l =
-      let p = phyAt file k in
-      let words = wordsRight (word (p .defaults) 0) (word (p .defaults) 1) (word (p .defaults) 15) in
-      let idle = both (unimplementedZero (p .implemented) (p .defaults) (p .masks)) (masksZero (p .masks) && words) (record-passes k l .defaults-right) in
-      both (masksZero (p .masks)) words (idle .1) .1
+      let r = recordAt file k in
+      let words = wordsRight (word (r .defaults) 0) (word (r .defaults) 1) (word (r .defaults) 15) in
+      let idle = both (unimplementedZero (r .own .implemented) (r .defaults) (r .masks)) (masksZero (r .masks) && words) (record-passes k l .defaults-right) in
+      both (masksZero (r .masks)) words (idle .1) .1
 
   used-sound : (k : ℕ) → k < n → placeSound (boardOf n (phyAt file)) k ≡ true
   unfolding placeSound recordPasses boardOf phyAt defaultsRight
   used-sound k l =
-      let p = phyAt file k in
+      let r = recordAt file k in
       let passes = record-passes k l in
       let used = used-before file (replicate places blank) n k (omega arith) in
-      let address : fieldsWrong 0 p ≡ false = rw (neither (ltb 31 (p .address)) (not (eqb (zeroByteAt file k) 0)) (passes .fields-right) .0) in
-      let fault = passes-no-fault 0 (usedBefore file k) p (record {
+      let address : fieldsWrong 0 r ≡ false = rw (neither (ltb 31 (r .own .address)) (not (eqb (zeroByteAt file k) 0)) (passes .fields-right) .0) in
+      let fault = passes-no-fault 0 (usedBefore file k) r (record {
         fields-right = address;
         address-free = passes .address-free;
         set-right = passes .set-right;
         defaults-right = passes .defaults-right;
       }) in
-      rw (lt-leb n k l, place-fresh k l, used, fault) (fresh-sound (p .address) (p .implemented) (p .defaults) (p .masks) (words-right k l))
+      rw (lt-leb n k l, place-fresh k l, used, fault) (fresh-sound (r .own) (r .defaults) (r .masks) (words-right k l))
 
   load-places : Sound (boardOf n (phyAt file))
   unfolding boardOf

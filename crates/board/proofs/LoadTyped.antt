@@ -4,7 +4,7 @@ use mathlib.Core.Bool.{Bool, true, false}
 use mathlib.Core.List.{List, []}
 use mathlib.Core.Path.{_≡_, refl, sym, subst, _∙_}
 use native.Mathlib.Omega.{arith}
-use lib.ListN.{length, getD, drop, replicate, length-append, length-drop, length-replicate, getD-replicate}
+use lib.ListN.{drop, replicate, length-append, length-drop, length-replicate, getD-replicate}
 use lib.Dec.{leb}
 use borrow.Author.Tests.{leb-true, leb-false}
 use Rattle.verdict.specs.declared.Verdict.{Verdict}
@@ -16,8 +16,9 @@ use Rattle.verdict.proofs.Elements.{all-or}
 use Rattle.phy.specs.Record.{registerCount}
 use Rattle.phy.specs.Sound.{blank, nowhere}
 use Rattle.phy.specs.Typed.{Words, Typed}
+use Rattle.phy.proofs.Keeping.{fresh-typed}
 use Rattle.board.specs.Check.{places, placeAt}
-use Rattle.board.specs.Load.{boardRecord, wordsAt, phyAt, boardVerdict, boardOf, noPhys, loadedBy, loaded}
+use Rattle.board.specs.Load.{boardRecord, ownAt, wordsAt, defaultsAt, masksAt, phyAt, boardVerdict, boardOf, noPhys, loadedBy, loaded}
 use Rattle.board.specs.Typed.{TypedBoard}
 use Rattle.board.proofs.LoadSound.{fits, place-fresh, place-blank}
 
@@ -25,7 +26,7 @@ module _ (file : List ℕ) (bytes : (i : ℕ) → byteAt file i < 256) where
   small-word : (i : ℕ) → wordAt file i < 2 ^ 16
   small-word i = omega (arith, bytes i, bytes (i + 1))
 
-  typed-words : (start : ℕ) → Words (wordsAt file start)
+  typed-words : (start : ℕ) → Words 32 (wordsAt file start)
   unfolding wordsAt
   typed-words start = record {
     long = length-tabulate registerCount (λ r. wordAt file (start + r * 2));
@@ -34,15 +35,10 @@ module _ (file : List ℕ) (bytes : (i : ℕ) → byteAt file i < 256) where
 
   typed-phy : (k : ℕ) → Typed (phyAt file k)
   unfolding phyAt
-  typed-phy k = record {
-    address = bytes (k * boardRecord);
-    implemented = omega (arith, small-word (k * boardRecord + 2), small-word (k * boardRecord + 4));
-    defaults = typed-words (k * boardRecord + 6);
-    masks = typed-words (k * boardRecord + 70);
-    registers = typed-words (k * boardRecord + 6);
-    follower = omega arith;
-    captured = omega arith;
-  }
+  typed-phy k =
+      fresh-typed (ownAt file k) (defaultsAt file k) (masksAt file k)
+      (record { address = bytes (k * boardRecord); implemented = omega (arith, small-word (k * boardRecord + 2), small-word (k * boardRecord + 4)) })
+      (typed-words (k * boardRecord + 6)) (typed-words (k * boardRecord + 70))
 
 -- a blank place is what a record of no bytes says
 blank-typed : Typed blank

@@ -1,7 +1,7 @@
 -- What `check` says of a board: which boards pass, the lowest place at fault, no two PHYs at one address; and that a load passes.
 use Prim.Native.Nat.{ℕ, _≤_, _<_}
 use mathlib.Core.Bool.{Bool, true, false, not}
-use mathlib.Core.Path.{_≡_, refl, sym}
+use mathlib.Core.Path.{_≡_, refl, sym, _∙_}
 use native.Mathlib.Omega.{arith}
 use lib.Dec.{ltb}
 use borrow.Author.Tests.{lt-ltb, le-ltb, ltb-false, le-leb, lt-leb, eqb-true, eqb-false}
@@ -9,9 +9,11 @@ use Rattle.verdict.specs.declared.Verdict.the-variants.{Done, Refused}
 use Rattle.verdict.specs.Refusal.{wrongField, addressUsed, wrongRegisterSet, wrongDefault, notSound, _when_, _else_, refuse}
 use Rattle.verdict.specs.File.{inOrder}
 use Rattle.verdict.proofs.Checks.{FirstAtFault, refused-first, refused-number, done-all-pass, all-pass-done}
-use Rattle.phy.specs.declared.Phy.{Phy}
+use Rattle.phy.specs.Own.{takes}
+use Rattle.phy.specs.Fields.{PhyRecord, recordOf}
 use Rattle.phy.specs.Sound.{phySound, isBlank}
 use Rattle.phy.proofs.Every.{both, any-none}
+use Rattle.phy.proofs.Headers.{taken-own}
 use Rattle.phy.specs.Record.{registerSetRight, defaultsRight}
 use Rattle.board.specs.declared.Board.{Board}
 use Rattle.board.specs.Record.{fieldsWrong, hasAddress, faultOf}
@@ -69,44 +71,45 @@ module _ (board : Board) where
       go true p q = absurd (q (sym p))
 
 -- what a record that passes checks 3 to 6 has
-pub record Passes (zeroByte : ℕ) (used : Bool) (p : Phy) : Type 0 where
-  pub fields-right : fieldsWrong zeroByte p ≡ false
+pub record Passes (zeroByte : ℕ) (used : Bool) (r : PhyRecord) : Type 0 where
+  pub fields-right : fieldsWrong zeroByte r ≡ false
   pub address-free : used ≡ false
-  pub set-right : registerSetRight (p .implemented) (p .defaults) ≡ true
-  pub defaults-right : defaultsRight (p .implemented) (p .defaults) (p .masks) ≡ true
+  pub set-right : registerSetRight (r .own .implemented) (r .defaults) ≡ true
+  pub defaults-right : defaultsRight (r .own .implemented) (r .defaults) (r .masks) ≡ true
 
-pub no-fault-passes : (zeroByte : ℕ) (used : Bool) (p : Phy) → faultOf zeroByte used p ≡ 0 → Passes zeroByte used p
+pub no-fault-passes : (zeroByte : ℕ) (used : Bool) (r : PhyRecord) → faultOf zeroByte used r ≡ 0 → Passes zeroByte used r
 unfolding faultOf
-no-fault-passes zeroByte used p e =
-    go (fieldsWrong zeroByte p) used (registerSetRight (p .implemented) (p .defaults)) (defaultsRight (p .implemented) (p .defaults) (p .masks)) refl refl refl refl e
+no-fault-passes zeroByte used r e =
+    go (fieldsWrong zeroByte r) used (registerSetRight (r .own .implemented) (r .defaults)) (defaultsRight (r .own .implemented) (r .defaults) (r .masks)) refl refl refl refl e
   where
-    go : (a b c d : Bool) → fieldsWrong zeroByte p ≡ a → used ≡ b → registerSetRight (p .implemented) (p .defaults) ≡ c → defaultsRight (p .implemented) (p .defaults) (p .masks) ≡ d → (wrongField when a else addressUsed when b else wrongRegisterSet when not c else wrongDefault when not d) ≡ 0 → Passes zeroByte used p
+    go : (a b c d : Bool) → fieldsWrong zeroByte r ≡ a → used ≡ b → registerSetRight (r .own .implemented) (r .defaults) ≡ c → defaultsRight (r .own .implemented) (r .defaults) (r .masks) ≡ d → (wrongField when a else addressUsed when b else wrongRegisterSet when not c else wrongDefault when not d) ≡ 0 → Passes zeroByte used r
     go false false true true h₁ h₂ h₃ h₄ e = record { fields-right = h₁; address-free = h₂; set-right = h₃; defaults-right = h₄ }
     go true b c d h₁ h₂ h₃ h₄ e = absurd (omega arith)
     go false true c d h₁ h₂ h₃ h₄ e = absurd (omega arith)
     go false false false d h₁ h₂ h₃ h₄ e = absurd (omega arith)
     go false false true false h₁ h₂ h₃ h₄ e = absurd (omega arith)
 
-pub passes-no-fault : (zeroByte : ℕ) (used : Bool) (p : Phy) → Passes zeroByte used p → faultOf zeroByte used p ≡ 0
+pub passes-no-fault : (zeroByte : ℕ) (used : Bool) (r : PhyRecord) → Passes zeroByte used r → faultOf zeroByte used r ≡ 0
 unfolding faultOf
-passes-no-fault zeroByte used p h = rw (h .fields-right, h .address-free, h .set-right, h .defaults-right)
+passes-no-fault zeroByte used r h = rw (h .fields-right, h .address-free, h .set-right, h .defaults-right)
 
 module _ (board : Board) (s : Sound board) where
   -- a used place of a sound board: its record passes against those before it, and its PHY is sound
-  pub used-place : (k : ℕ) → k < board .count → Passes 0 (hasAddress (board .phys) k (placeAt board k .address)) (placeAt board k) × (phySound (placeAt board k) ≡ true)
+  pub used-place : (k : ℕ) → k < board .count → Passes 0 (hasAddress (board .phys) k (placeAt board k .own .address)) (recordOf (placeAt board k)) × (phySound (placeAt board k) ≡ true)
   unfolding placeSound recordPasses
   used-place k l =
       let here = (rw (lt-leb (board .count) k l) at (s .each k (omega (arith, s .at-most)))) in
       let parts = both (recordPasses board k) (phySound (placeAt board k)) here in
-      (no-fault-passes 0 _ (placeAt board k) (eqb-true _ 0 (parts .0)), parts .1)
+      (no-fault-passes 0 _ (recordOf (placeAt board k)) (eqb-true _ 0 (parts .0)), parts .1)
 
   pub unused-place : (k : ℕ) → board .count ≤ k → k < places → isBlank (placeAt board k) ≡ true
   unfolding placeSound
   unused-place k h l = rw (le-leb (board .count) k h) at (s .each k l)
 
-  -- no two PHYs of a sound board have the same address
-  pub addresses-differ : (i j : ℕ) → i < j → j < board .count → placeAt board i .address ≡ placeAt board j .address → ⊥
+  -- no two PHYs of a sound board take frames to the same address
+  pub addresses-differ : (i j : ℕ) → i < j → j < board .count
+      → (address : ℕ) → takes address (placeAt board i .own) ≡ true → takes address (placeAt board j .own) ≡ true → ⊥
   unfolding hasAddress
-  addresses-differ i j h l =
+  addresses-differ i j h l address one other =
       let free = used-place j l .0 .address-free in
-      eqb-false _ _ (any-none _ j free i h)
+      eqb-false _ _ (any-none _ j free i h) (sym (taken-own address _ one) ∙ taken-own address _ other)

@@ -8,6 +8,7 @@ use Rattle.verdict.specs.declared.Verdict.the-variants.{Done}
 use Rattle.verdict.specs.Refusal.{notSound, _when_, refuse}
 use Rattle.verdict.specs.File.{inOrder}
 use Rattle.phy.specs.declared.Phy.{Phy}
+use Rattle.phy.specs.Fields.{recordOf}
 use Rattle.phy.specs.Sound.{phySound, isBlank, nowhere}
 use Rattle.board.specs.declared.Board.{Board}
 use Rattle.board.specs.Record.{hasAddress, faultOf}
@@ -21,10 +22,10 @@ placeAt board k = getD (board .phys) k nowhere
 
 -- "each record passes checks 3 to 6 against those before it", where it is known whether one of them has its address
 abbrev pub passesAs : Bool → Phy → Bool
-passesAs used phy = eqb (faultOf 0 used phy) 0
+passesAs used phy = eqb (faultOf 0 used (recordOf phy)) 0
 
 unfoldable pub recordPasses : Board → ℕ → Bool
-recordPasses board k = passesAs (hasAddress (board .phys) k (placeAt board k .address)) (placeAt board k)
+recordPasses board k = passesAs (hasAddress (board .phys) k (placeAt board k .own .address)) (placeAt board k)
 
 -- a place is unused and blank, or its PHY has a good record and is sound
 unfoldable pub placeSound : Board → ℕ → Bool

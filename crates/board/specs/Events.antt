@@ -7,6 +7,8 @@ use Rattle.verdict.specs.declared.Verdict.{Verdict}
 use Rattle.verdict.specs.Refusal.{wrongEvent, wrongClock, _when_, _else_}
 use Rattle.verdict.specs.File.{byteAt, wordAt, fileVerdict}
 use Rattle.board.specs.declared.Board.{Board}
+use Rattle.board.specs.declared.events.EventRecord.{EventRecord}
+use Rattle.board.specs.declared.events.EventRecord.the-variants.{Good, Bad}
 use Rattle.board.specs.Record.{hasAddress}
 use Rattle.board.specs.Check.{places}
 
@@ -52,6 +54,15 @@ eventFaultAs there events last k = wrongEvent when eventWrongAs there events k e
 
 unfoldable pub eventFault : Board → List ℕ → ℕ → ℕ → ℕ
 eventFault board events last k = eventFaultAs (onBoard board (eventAddress events k)) events last k
+
+-- a record is good, and its event comes after this clock, or bad with a refusal's number
+abbrev pub judged : ℕ → ℕ → EventRecord
+judged zero clock = Good clock
+judged (suc number) clock = Bad (suc number)
+
+abbrev pub refusalOf : EventRecord → ℕ
+refusalOf (Good clock) = 0
+refusalOf (Bad number) = number
 
 -- the event file's checks on a board, where `last` is the last clock: 1, 2, then its records in order by 8 and 9
 abbrev pub eventsVerdict : Board → List ℕ → ℕ → Verdict

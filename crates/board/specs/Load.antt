@@ -8,7 +8,9 @@ use Rattle.verdict.specs.declared.Verdict.{Verdict}
 use Rattle.verdict.specs.declared.Verdict.the-variants.{Done, Refused}
 use Rattle.verdict.specs.File.{byteAt, wordAt, fileVerdict}
 use Rattle.verdict.specs.Output.{tabulate}
+use Rattle.phy.specs.declared.own.Own.{Own}
 use Rattle.phy.specs.declared.Phy.{Phy}
+use Rattle.phy.specs.Fields.{PhyRecord}
 use Rattle.phy.specs.Record.{any, registerCount}
 use Rattle.phy.specs.Clock.{fresh}
 use Rattle.phy.specs.Sound.{blank}
@@ -30,14 +32,25 @@ zeroByteAt file k = byteAt file (k * boardRecord + 1)
 abbrev pub implementedAt : List ℕ → ℕ → ℕ
 implementedAt file k = wordAt file (k * boardRecord + 2) * 65536 + wordAt file (k * boardRecord + 4)
 
+abbrev pub ownAt : List ℕ → ℕ → Own
+ownAt file k = record { address = addressAt file k; implemented = implementedAt file k }
+
 -- 32 words from a place of the file on
 unfoldable pub wordsAt : List ℕ → ℕ → List ℕ
 wordsAt file start = tabulate registerCount (λ r. wordAt file (start + r * 2))
 
+abbrev pub defaultsAt : List ℕ → ℕ → List ℕ
+defaultsAt file k = wordsAt file (k * boardRecord + 6)
+
+abbrev pub masksAt : List ℕ → ℕ → List ℕ
+masksAt file k = wordsAt file (k * boardRecord + 70)
+
+abbrev pub recordAt : List ℕ → ℕ → PhyRecord
+recordAt file k = record { own = ownAt file k; defaults = defaultsAt file k; masks = masksAt file k }
+
 -- the PHY of the record at index k: "A load gives hunting, 0 ones, link down, defaults."
 unfoldable pub phyAt : List ℕ → ℕ → Phy
-phyAt file k =
-    fresh (addressAt file k) (implementedAt file k) (wordsAt file (k * boardRecord + 6)) (wordsAt file (k * boardRecord + 70))
+phyAt file k = fresh (ownAt file k) (defaultsAt file k) (masksAt file k)
 
 -- "an address already used by an earlier board record"
 unfoldable pub usedBefore : List ℕ → ℕ → Bool
@@ -45,7 +58,7 @@ usedBefore file k = any k (λ i. eqb (addressAt file i) (addressAt file k))
 
 -- what checks 3 to 6 find of the record at index k
 unfoldable pub recordFault : List ℕ → ℕ → ℕ
-recordFault file k = faultOf (zeroByteAt file k) (usedBefore file k) (phyAt file k)
+recordFault file k = faultOf (zeroByteAt file k) (usedBefore file k) (recordAt file k)
 
 -- the board file's checks: 1, 2, then its records in order by 3 to 6
 abbrev pub boardVerdict : List ℕ → Verdict

@@ -25,6 +25,8 @@ impl Register {
     pub(crate) const MMD_DATA: usize = 14;
 
     pub(crate) const EXTENDED_STATUS: usize = ExtendedStatus::REGISTER as usize;
+    // Those beside 0, 1 and 13 to 15, as a mask.
+    pub(crate) const OTHERS: u32 = 0xFFFF_1FFC;
 }
 
 // Whether the bits outside a mask stand as in another word.

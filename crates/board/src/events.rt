@@ -1,15 +1,34 @@
 // The event file (document 01, "Records": "Events, 4 bytes, 0 to 256: clock number (2 bytes), PHY address, code").
 use crate::Board;
 use crate::record;
-use crate::record::Record;
 use phy::Event;
 use verdict::Verdict;
 ghost use mathlib.Core.Path.{_≡_};
-ghost use Prim.Native.Nat.{_+_, _*_, _<_, min};
+ghost use mathlib.Core.Bool.{false};
+ghost use Prim.Native.Nat.{ℕ, _+_, _*_, _≤_, _<_, min};
+ghost use lib.ListN.{getD};
+ghost use lib.Dec.{eqb};
 ghost use Rattle.verdict.specs.File.{byteAt};
-ghost use Rattle.board.specs.Events.{eventRecord, eventClock, eventAddress, eventCode, clockBefore, eventFaultAs, eventsVerdict};
+ghost use Rattle.phy.specs.Record.{any};
+ghost use Rattle.board.specs.Events.{eventRecord, eventClock, eventAddress, eventCode, clockBefore, eventFaultAs, judged, refusalOf, eventsVerdict};
 ghost use Rattle.board.specs.Check.{places};
-ghost use Rattle.board.specs.Record.{recordOf};
+
+// A record of the event file is good, and its event comes after this clock, or bad with a refusal's number.
+enum EventRecord {
+    Good(u16),
+    Bad(u8),
+}
+
+impl EventRecord {
+    fn refusal(self) -> u8
+        ensures { λ r. ⌜ r ≡ refusalOf self ⌝ }
+    {
+        match self {
+            EventRecord::Good(_) => 0,
+            EventRecord::Bad(number) => number,
+        }
+    }
+}
 
 // A byte of the event record at index k; past the file's end a byte reads 0.
 fn byte_of(events: &[u8], k: usize, offset: usize) -> u8
@@ -52,21 +71,36 @@ fn places_of(board: Board) -> usize
     }
 }
 
+// Which addresses are among the first n of these: a table to ask for each event, in place of a walk. It is made of the addresses
+// alone, since a loop over the places of a board would hold a second board.
+fn table_of(addresses: [u8; 32], n: usize) -> [bool; 256]
+    requires { ⌜ n ≤ places ⌝ }
+    ensures { λ r. ⌜ ((address : ℕ) → getD r address false ≡ any n (λ i. eqb (getD addresses i 0) address)) ⌝ }
+{
+    let mut there = [false; 256];
+    let mut i: usize = 0;
+    while i < n {
+        there[addresses[i] as usize] = true;
+        i += 1;
+    }
+    there
+}
+
 // Checks 8 and 9 of the event record at index k, where `there` is whether its address is on the board and `before` the clock of
 // the record before it.
-fn judge_event(there: bool, events: &[u8], last: usize, k: usize, before: u16) -> Record
+fn judge_event(there: bool, events: &[u8], last: usize, k: usize, before: u16) -> EventRecord
     requires { ⌜ before ≡ clockBefore (now events) k ⌝ }
-    ensures { λ r. ⌜ r ≡ recordOf (eventFaultAs there (now (events .entry)) last k) ⌝ }
+    ensures { λ r. ⌜ r ≡ judged (eventFaultAs there (now (events .entry)) last k) (eventClock (now (events .entry)) k) ⌝ }
 {
     let clock = clock_of(events, k);
     let code = code_of(events, k);
     if !((Event::LINK_UP <= code) & (code <= Event::RESET_DONE)) | !there {
-        return Record::Bad(Verdict::WRONG_EVENT);
+        return EventRecord::Bad(Verdict::WRONG_EVENT);
     }
     if (clock < before) | (last < clock as usize) {
-        return Record::Bad(Verdict::WRONG_CLOCK);
+        return EventRecord::Bad(Verdict::WRONG_CLOCK);
     }
-    Record::Good
+    EventRecord::Good(clock)
 }
 
 // The event file's checks on a board, where `last` is the last clock.
@@ -80,17 +114,16 @@ pub fn check_events(board: Board, events: &[u8], last: usize) -> Verdict
     if Board::MOST_EVENTS < count {
         return Verdict::Refused(Verdict::TOO_MANY, 0);
     }
-    let addresses = record::addresses_of(board);
-    let places = places_of(board);
+    let there = table_of(record::addresses_of(board), places_of(board));
     let mut before: u16 = 0;
     let mut k: usize = 0;
     while k < count {
-        let there = record::has_address(addresses, places, address_of(events, k));
-        let event = judge_event(there, events, last, k, before);
-        let Record::Good = event else {
+        let address = address_of(events, k) as usize;
+        let event = judge_event(there[address], events, last, k, before);
+        let EventRecord::Good(clock) = event else {
             return Verdict::Refused(event.refusal(), k);
         };
-        before = clock_of(events, k);
+        before = clock;
         k += 1;
     }
     Verdict::Done(count)

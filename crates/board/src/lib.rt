@@ -48,15 +48,24 @@ pub fn check(board: Board) -> Verdict
     if Board::PLACES < count {
         return Verdict::Refused(Verdict::NOT_SOUND, Board::PLACES);
     }
-    let addresses = record::addresses_of(board);
+    // Which addresses the places before have.
+    let mut taken = [false; 256];
     let mut k: usize = 0;
-    while k < Board::PLACES {
-        let phy = board.phys[k];
-        let used = record::has_address(addresses, k, phy.address);
-        if !sound::place_sound(phy, count <= k, used) {
+    while k < count {
+        let address = board.phys[k].own.address as usize;
+        let passes = sound::record_passes(board.phys[k], taken[address]);
+        if !(passes & sound::phy_sound(board.phys[k])) {
             return Verdict::Refused(Verdict::NOT_SOUND, k);
         }
+        taken[address] = true;
         k += 1;
+    }
+    let mut place = count;
+    while place < Board::PLACES {
+        if !sound::is_blank(board.phys[place]) {
+            return Verdict::Refused(Verdict::NOT_SOUND, place);
+        }
+        place += 1;
     }
     Verdict::Done(count)
 }

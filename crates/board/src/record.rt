@@ -3,19 +3,19 @@ use crate::Board;
 use crate::bits::Register;
 use phy::Control;
 use phy::ExtendedStatus;
-use phy::Phy;
+use phy::Own;
 use phy::Status;
 use verdict::Verdict;
 ghost use mathlib.Core.Path.{_≡_};
-ghost use Prim.Native.Nat.{_≤_, _<_};
+ghost use Prim.Native.Nat.{_<_};
 ghost use Rattle.phy.specs.Abilities.{one};
 ghost use Rattle.phy.specs.Record.{registerCount, othersImplemented, registerSetRight, unimplementedZero, fastest, derivedControl, wordsRight, defaultsRight};
-ghost use Rattle.board.specs.Record.{addressesOf, isAmong, faultOf, recordOf, refusalOf};
+ghost use Rattle.board.specs.Record.{addressesOf, faultOf, judged, refusalOf};
 
-// What the checks find of a record of a file.
+// A record of the board file is good, and its PHY is this one, or bad with a refusal's number. The words of a good record stand
+// beside it, since an enum holds no arrays.
 pub(crate) enum Record {
-    Good,
-    // The refusal's number.
+    Good(Own),
     Bad(u8),
 }
 
@@ -24,7 +24,7 @@ impl Record {
         ensures { λ r. ⌜ r ≡ refusalOf self ⌝ }
     {
         match self {
-            Record::Good => 0,
+            Record::Good(_) => 0,
             Record::Bad(number) => number,
         }
     }
@@ -35,23 +35,14 @@ fn has(implemented: u32, register: usize) -> bool
     requires { ⌜ register < registerCount ⌝ }
     ensures { λ r. ⌜ r ≡ one register implemented ⌝ }
 {
-    (implemented >> register) % 2 == 1
+    implemented & (1u32 << register) != 0
 }
 
 // Whether any register beside 0, 1 and 13 to 15 is implemented.
 fn others_implemented(implemented: u32) -> bool
     ensures { λ r. ⌜ r ≡ othersImplemented implemented ⌝ }
 {
-    let mut r: usize = 0;
-    while r < Register::COUNT {
-        let other = ((Register::STATUS < r) & (r < Register::MMD_CONTROL))
-            | (Register::EXTENDED_STATUS < r);
-        if other & has(implemented, r) {
-            return true;
-        }
-        r += 1;
-    }
-    false
+    implemented & Register::OTHERS != 0
 }
 
 // Check 5.
@@ -68,18 +59,18 @@ fn register_set_right(implemented: u32, defaults: [u16; 32]) -> bool
     basic & (extended_status & extended)
 }
 
-// Check 6 on registers that are not implemented.
+// Check 6 on registers that are not implemented. A loop over the registers gathers their tests and stops at none, so that it
+// is compiled to tests of eight registers at a time.
 fn unimplemented_zero(implemented: u32, defaults: [u16; 32], masks: [u16; 32]) -> bool
     ensures { λ r. ⌜ r ≡ unimplementedZero implemented defaults masks ⌝ }
 {
+    let mut zero = true;
     let mut r: usize = 0;
     while r < Register::COUNT {
-        if !(has(implemented, r) | ((defaults[r] == 0) & (masks[r] == 0))) {
-            return false;
-        }
+        zero = zero & (has(implemented, r) | ((defaults[r] == 0) & (masks[r] == 0)));
         r += 1;
     }
-    true
+    zero
 }
 
 // The fastest speed that is able, as bits 6 and 13 of register 0.
@@ -148,44 +139,39 @@ pub(crate) fn addresses_of(board: Board) -> [u8; 32]
     let mut addresses = [0u8; 32];
     let mut i: usize = 0;
     while i < Board::PLACES {
-        addresses[i] = board.phys[i].address;
+        addresses[i] = board.phys[i].own.address;
         i += 1;
     }
     addresses
 }
 
-// Whether one of the first n addresses is this one.
-pub(crate) fn has_address(addresses: [u8; 32], n: usize, address: u8) -> bool
-    requires { ⌜ n ≤ 32 ⌝ }
-    ensures { λ r. ⌜ r ≡ isAmong addresses n address ⌝ }
+// What checks 3 to 6 find of a record, a refusal's number or 0, where `used` is whether an earlier one has its address.
+pub(crate) fn fault(zero: u8, used: bool, own: Own, defaults: [u16; 32], masks: [u16; 32]) -> u8
+    ensures { λ r. ⌜ r ≡ faultOf zero used (record { own = own; defaults = defaults; masks = masks }) ⌝ }
 {
-    let mut i: usize = 0;
-    while i < n {
-        if addresses[i] == address {
-            return true;
-        }
-        i += 1;
-    }
-    false
-}
-
-// Checks 3 to 6 of the record that a PHY comes from.
-pub(crate) fn judge(zero: u8, used: bool, phy: Phy) -> Record
-    ensures { λ r. ⌜ r ≡ recordOf (faultOf zero used phy) ⌝ }
-{
-    if (Board::LAST_ADDRESS < phy.address) | (zero != 0) {
-        return Record::Bad(Verdict::WRONG_FIELD);
+    if (Board::LAST_ADDRESS < own.address) | (zero != 0) {
+        return Verdict::WRONG_FIELD;
     }
     if used {
-        return Record::Bad(Verdict::ADDRESS_USED);
+        return Verdict::ADDRESS_USED;
     }
-    let defaults = phy.defaults;
-    let masks = phy.masks;
-    if !register_set_right(phy.implemented, defaults) {
-        return Record::Bad(Verdict::WRONG_REGISTER_SET);
+    if !register_set_right(own.implemented, defaults) {
+        return Verdict::WRONG_REGISTER_SET;
     }
-    if !defaults_right(phy.implemented, defaults, masks) {
-        return Record::Bad(Verdict::WRONG_DEFAULT);
+    if !defaults_right(own.implemented, defaults, masks) {
+        return Verdict::WRONG_DEFAULT;
     }
-    Record::Good
+    0
+}
+
+// A record by its checks.
+pub(crate) fn judge(zero: u8, used: bool, own: Own, defaults: [u16; 32], masks: [u16; 32]) -> Record
+    ensures { λ r. ⌜ r ≡ judged (faultOf zero used (record { own = own; defaults = defaults; masks = masks })) own ⌝ }
+{
+    let number = fault(zero, used, own, defaults, masks);
+    if number == 0 {
+        Record::Good(own)
+    } else {
+        Record::Bad(number)
+    }
 }

@@ -2,30 +2,28 @@
 use crate::bits;
 use crate::bits::Register;
 use crate::record;
-use crate::record::Record;
 use phy::Control;
+use phy::Own;
 use phy::Phy;
 use phy::Status;
 use wire::Follower;
 use wire::Header;
 ghost use mathlib.Core.Path.{_≡_};
-ghost use mathlib.Core.Bool.{_&&_, cond};
-ghost use Rattle.phy.specs.Sound.{controlRight, registersStand, othersAtDefault, resetStands, followerSound, inOwnRead, phySound, zeros, huntsFresh, isBlank, blank};
 ghost use Rattle.board.specs.Check.{passesAs};
+ghost use Rattle.phy.specs.Sound.{controlRight, registersStand, othersAtDefault, resetStands, followerSound, inOwnRead, phySound, zeros, huntsFresh, isBlank, blank};
 
 // Bits outside masks stand at default in registers above 1.
 fn registers_stand(phy: Phy) -> bool
     ensures { λ r. ⌜ r ≡ registersStand phy ⌝ }
 {
+    let mut all = true;
     let mut r: usize = 0;
     while r < Register::COUNT {
         let stands = bits::stands_outside(phy.masks[r], phy.registers[r], phy.defaults[r]);
-        if !((r <= Register::STATUS) | stands) {
-            return false;
-        }
+        all = all & ((r <= Register::STATUS) | stands);
         r += 1;
     }
-    true
+    all
 }
 
 // What register 0 is asked, by its word and those of registers 1 and 15.
@@ -50,27 +48,28 @@ fn control_right(control: u16, status: u16, extended: u16) -> bool
 fn others_at_default(phy: Phy) -> bool
     ensures { λ r. ⌜ r ≡ othersAtDefault phy ⌝ }
 {
+    let mut all = true;
     let mut r: usize = 0;
     while r < Register::COUNT {
-        if !((r == Register::CONTROL) | (phy.registers[r] == phy.defaults[r])) {
-            return false;
-        }
+        all = all & ((r == Register::CONTROL) | (phy.registers[r] == phy.defaults[r]));
         r += 1;
     }
-    true
+    all
 }
 
 // In reset all else stands at default with the link down.
 fn reset_stands(phy: Phy) -> bool
     ensures { λ r. ⌜ r ≡ resetStands phy ⌝ }
 {
+    if !phy.in_reset() {
+        return true;
+    }
     let stands = bits::stands_outside(
         Control::RESET,
         phy.registers[Register::CONTROL],
         phy.defaults[Register::CONTROL],
     );
-    let others = others_at_default(phy);
-    !phy.in_reset() | (stands & (others & !phy.link))
+    stands & (others_at_default(phy) & !phy.link)
 }
 
 // Hunting with 0 to 32 ones, or inside a frame with 1 to 31 bits, the first 0.
@@ -92,8 +91,8 @@ fn follower_sound(follower: Follower) -> bool
 }
 
 // Whether a PHY is in an own read of an implemented register, from the 14th bit on.
-fn in_own_read(phy: Phy, follower: Follower) -> bool
-    ensures { λ r. ⌜ r ≡ inOwnRead phy follower ⌝ }
+fn in_own_read(own: Own, follower: Follower) -> bool
+    ensures { λ r. ⌜ r ≡ inOwnRead own follower ⌝ }
 {
     match follower {
         Follower::Hunting(_) => false,
@@ -104,13 +103,13 @@ fn in_own_read(phy: Phy, follower: Follower) -> bool
             if Follower::MOST_SEEN < seen {
                 return false;
             }
-            phy.answers(Header::of(bits >> (seen - Phy::HEADER)))
+            own.answers(Header::of(bits >> (seen - Phy::HEADER)))
         }
     }
 }
 
 // All that is asked of one PHY beside its record.
-fn phy_sound(phy: Phy) -> bool
+pub(crate) fn phy_sound(phy: Phy) -> bool
     ensures { λ r. ⌜ r ≡ phySound phy ⌝ }
 {
     let control = phy.registers[Register::CONTROL];
@@ -125,7 +124,7 @@ fn phy_sound(phy: Phy) -> bool
             & (control & Control::RESTART_AUTO_NEGOTIATION == 0));
     let link = (status & Status::LINK_STATUS == 0) | phy.link;
     let follows = follower_sound(follower);
-    let captured = in_own_read(phy, follower) | (phy.captured == 0);
+    let captured = in_own_read(phy.own, follower) | (phy.captured == 0);
     registers
         & (status_stands & (control_stands & (reset & (complete & (link & (follows & captured))))))
 }
@@ -134,14 +133,13 @@ fn phy_sound(phy: Phy) -> bool
 fn zeros(words: [u16; 32]) -> bool
     ensures { λ r. ⌜ r ≡ zeros words ⌝ }
 {
+    let mut all = true;
     let mut r: usize = 0;
     while r < Register::COUNT {
-        if words[r] != 0 {
-            return false;
-        }
+        all = all & (words[r] == 0);
         r += 1;
     }
-    true
+    all
 }
 
 // Hunting with 0 ones.
@@ -155,7 +153,7 @@ fn hunts_fresh(follower: Follower) -> bool
 }
 
 // Whether a place is blank: numbers zero, hunting with 0 ones, link down.
-fn is_blank(phy: Phy) -> bool
+pub(crate) fn is_blank(phy: Phy) -> bool
     ensures { λ r. ⌜ r ≡ isBlank phy ⌝ }
 {
     let d = phy.defaults;
@@ -166,8 +164,8 @@ fn is_blank(phy: Phy) -> bool
     let registers = zeros(w);
     let follower = phy.follower;
     let fresh = hunts_fresh(follower);
-    (phy.address == 0)
-        & ((phy.implemented == 0)
+    (phy.own.address == 0)
+        & ((phy.own.implemented == 0)
             & (defaults & (masks & (registers & (!phy.link & (fresh & (phy.captured == 0)))))))
 }
 
@@ -175,21 +173,19 @@ fn is_blank(phy: Phy) -> bool
 pub(crate) fn blank() -> Phy
     ensures { λ r. ⌜ r ≡ blank ⌝ }
 {
+    let nobody = Own {
+        address: 0,
+        implemented: 0,
+    };
     let words = [0; 32];
-    Phy::fresh(0, 0, words, words)
+    Phy::fresh(nobody, words, words)
 }
 
-// Whether a place is as it should be: blank where it is unused, else a PHY with a good record that is sound. `used` is
-// whether its address is, by an earlier place.
-pub(crate) fn place_sound(phy: Phy, unused: bool, used: bool) -> bool
-    ensures { λ r. ⌜ r ≡ cond unused (isBlank phy) (passesAs used phy && phySound phy) ⌝ }
+// Whether a PHY's record passes checks 3 to 6. `used` is whether its address is, by an earlier place.
+pub(crate) fn record_passes(phy: Phy, used: bool) -> bool
+    ensures { λ r. ⌜ r ≡ passesAs used phy ⌝ }
 {
-    if unused {
-        return is_blank(phy);
-    }
-    let record = record::judge(0, used, phy);
-    let Record::Good = record else {
-        return false;
-    };
-    phy_sound(phy)
+    let defaults = phy.defaults;
+    let masks = phy.masks;
+    record::fault(0, used, phy.own, defaults, masks) == 0
 }

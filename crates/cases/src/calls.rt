@@ -20,8 +20,8 @@ use crate::buffers::Steps;
 use crate::buffers::Text;
 use crate::script::Word;
 use crate::text;
+use between::Outcome;
 use board::Board;
-use machine::Outcome;
 
 // The first bytes of a buffer; all of it where it has fewer.
 fn first(buffer: &[u8], n: u32) -> &[u8] {
@@ -117,7 +117,7 @@ fn told(outcome: Outcome) -> Board {
 fn run(board: Board, word: Word, steps: &[u8], events: &[u8], log: &mut [u8]) -> Board {
     let room = word.b as usize;
     if room <= log.len() {
-        let outcome = machine::run(
+        let outcome = wire_machine::run(
             board,
             first(steps, word.a),
             first(events, word.c),
@@ -131,7 +131,7 @@ fn run(board: Board, word: Word, steps: &[u8], events: &[u8], log: &mut [u8]) ->
 fn plain(board: Board, word: Word, list: &[u8], events: &[u8], answers: &mut [u8]) -> Board {
     let room = word.b as usize;
     if room <= answers.len() {
-        let outcome = machine::plain(
+        let outcome = plain_machine::plain(
             board,
             first(list, word.a),
             first(events, word.c),

@@ -32,30 +32,14 @@ pub(crate) fn none() -> Board {
     loaded.board
 }
 
-fn follower(phy: Phy, follower: Follower) -> Phy {
-    let defaults = phy.defaults;
-    let masks = phy.masks;
-    let registers = phy.registers;
-    Phy {
-        address: phy.address,
-        implemented: phy.implemented,
-        defaults,
-        masks,
-        registers,
-        link: phy.link,
-        follower,
-        captured: phy.captured,
-    }
-}
-
 // The PHY with a field or a word changed.
 fn refielded(mut phy: Phy, word: Word) -> Phy {
     let letter = word.letter;
     let r = (word.b % 32) as usize;
     let value = (word.c % 0x1_0000) as u16;
     match letter {
-        b'a' => phy.address = (word.b % 256) as u8,
-        b'i' => phy.implemented = word.b,
+        b'a' => phy.own.address = (word.b % 256) as u8,
+        b'i' => phy.own.implemented = word.b,
         b'u' => phy.link = word.b == 1,
         b'c' => phy.captured = (word.b % 0x1_0000) as u16,
         b'd' => phy.defaults[r] = value,
@@ -71,8 +55,8 @@ fn following(phy: Phy, word: Word) -> Phy {
     let letter = word.letter;
     let n = (word.b % 256) as u8;
     match letter {
-        b'h' => follower(phy, Follower::Hunting(n)),
-        b'w' => follower(phy, Follower::Inside(n, word.c)),
+        b'h' => phy.with_line(Follower::Hunting(n), phy.captured),
+        b'w' => phy.with_line(Follower::Inside(n, word.c), phy.captured),
         _ => phy,
     }
 }

@@ -10,8 +10,8 @@ use Rattle.frame.specs.Steps.{translating, translation}
 use Rattle.frame.specs.Answers.{answerBytes, answersIn, decoding}
 use Rattle.board.specs.declared.Board.{Board}
 use Rattle.board.specs.Load.{loaded}
-use Rattle.machine.specs.Run.{running, logOfRun}
-use Rattle.machine.specs.Plain.{planning, answersOfPlain}
+use Rattle.wire_machine.specs.Run.{running, logOfRun}
+use Rattle.plain_machine.specs.Plain.{planning, answersOfPlain}
 use Rattle.listener.specs.Listening.{listening, recordBytes}
 use Rattle.waveform.specs.Waveform.{waveform, writing, Reading}
 use mathlib.Core.List.{map}

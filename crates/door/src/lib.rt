@@ -4,11 +4,11 @@ use board::load;
 use frame::decode;
 use frame::translate;
 use listener::listen;
-use machine::plain;
-use machine::run;
+use plain_machine::plain;
 use verdict::Verdict;
 use waveform::read_vcd;
 use waveform::write_vcd;
+use wire_machine::run;
 ghost use mathlib.Core.Path.{_≡_};
 ghost use Rattle.door.specs.Door.{codeOf, OpensTranslate, OpensDecode, OpensRun, OpensPlain, OpensListen, OpensWriteVcd, OpensReadVcd};
 
@@ -37,8 +37,7 @@ pub extern "C" fn taksherub_run(board: &[u8], steps: &[u8], events: &[u8], log: 
     let Verdict::Done(_) = verdict else {
         return code(verdict);
     };
-    let fresh = loaded.board;
-    let outcome = run(fresh, steps, events, log);
+    let outcome = run(loaded.board, steps, events, log);
     let answer = outcome.verdict;
     code(answer)
 }
@@ -64,8 +63,7 @@ pub extern "C" fn taksherub_plain(
     let Verdict::Done(_) = verdict else {
         return code(verdict);
     };
-    let fresh = loaded.board;
-    let outcome = plain(fresh, list, events, answers);
+    let outcome = plain(loaded.board, list, events, answers);
     let answer = outcome.verdict;
     code(answer)
 }

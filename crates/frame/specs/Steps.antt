@@ -9,7 +9,7 @@ use Rattle.verdict.specs.Bits.{bits, valueOf}
 use Rattle.verdict.specs.Output.{join, roomFor, Writes}
 use Rattle.frame.specs.declared.list.Transaction.{Transaction}
 use Rattle.frame.specs.Frame.{preamble, frameBits, clocks}
-use Rattle.frame.specs.List.{isRead, listVerdict, transactions}
+use Rattle.frame.specs.List.{mostTransactions, isRead, listVerdict, transactions}
 
 abbrev pub driveZero : ℕ
 driveZero = 0
@@ -22,6 +22,14 @@ release = 2
 
 abbrev pub releaseAndSample : ℕ
 releaseAndSample = 3
+
+-- "over 4,160 clock steps": as many as the longest list has
+abbrev pub mostSteps : ℕ
+mostSteps = mostTransactions * clocks
+
+-- 11: "clock step over 3"
+abbrev pub largestStep : ℕ
+largestStep = releaseAndSample
 
 -- the table's columns: what stands for a write, and for a read
 abbrev pub column : {A : Type 0} → Bool → A → A → A

@@ -15,6 +15,7 @@ pub use list::parsed_at;
 pub use list::transaction_at;
 pub use log::log_part;
 pub use steps::Step;
+pub use steps::Steps;
 pub use steps::translate;
 
 // The shared numbers of a frame. Clocks are positions from 1, and each follows from the preamble's length.

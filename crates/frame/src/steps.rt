@@ -25,6 +25,16 @@ impl Step {
     pub const RELEASE_AND_SAMPLE: u8 = 3;
 }
 
+// Steps one after the other, one for each clock.
+pub struct Steps {}
+
+impl Steps {
+    // As many as the longest list has, and the largest that there is.
+    pub const MOST: usize = Transaction::MOST * Frame::CLOCKS;
+
+    pub const LARGEST: u8 = Step::RELEASE_AND_SAMPLE;
+}
+
 // Bit `place` of a word, as the step that drives it.
 fn drive_bit(word: u16, place: usize) -> u8
     requires { ⌜ place < 16 ⌝ }

@@ -28,11 +28,12 @@ use Rattle.board.specs.declared.Board.{Board}
 use Rattle.board.specs.Load.{loaded}
 use Rattle.board.proofs.LoadSound.{load-sound}
 use Rattle.board.proofs.LoadTyped.{load-typed}
-use Rattle.machine.specs.Run.{logOfRun, atStart}
-use Rattle.machine.specs.Plain.{answersOfPlain}
-use Rattle.machine.proofs.Lines.{bit-small, bit-level}
-use Rattle.machine.proofs.Lockstep.{driven-all}
-use Rattle.machine.proofs.RunLaws.{log-length}
+use Rattle.wire_machine.specs.Run.{logOfRun}
+use Rattle.between.specs.Events.{atStart}
+use Rattle.wire.proofs.Levels.{bit-small, bit-level}
+use Rattle.plain_machine.specs.Plain.{answersOfPlain}
+use Rattle.wire_machine.proofs.Lockstep.{driven-all}
+use Rattle.wire_machine.proofs.RunLaws.{log-length}
 use Rattle.agreement.specs.Levels.{at, heardAll, levelsOfAll}
 use Rattle.agreement.specs.Demand3.{Asked}
 use Rattle.agreement.proofs.Accepted.{accepted-all}

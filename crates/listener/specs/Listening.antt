@@ -10,7 +10,7 @@ use Rattle.verdict.specs.File.{bytesVerdict}
 use Rattle.verdict.specs.Output.{join, roomFor, Writes}
 use Rattle.frame.specs.declared.answer.Answer.{Answer}
 use Rattle.frame.specs.Answers.{answerRecord, answerBytes}
-use Rattle.machine.specs.Run.{mostSteps}
+use Rattle.frame.specs.Steps.{mostSteps}
 use Rattle.listener.specs.Frames.{atFirst, framesFrom}
 use Rattle.listener.specs.Records.{recordsOfAll}
 

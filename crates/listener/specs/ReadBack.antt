@@ -10,7 +10,7 @@ use Rattle.frame.specs.Steps.{translation}
 use Rattle.frame.specs.Log.{levels}
 use Rattle.frame.specs.Answers.{answersIn}
 use Rattle.board.specs.declared.Board.{Board}
-use Rattle.machine.specs.Run.{logOfRun}
+use Rattle.wire_machine.specs.Run.{logOfRun}
 use Rattle.listener.specs.Listening.{captureVerdict, recordsIn}
 
 -- the levels of a log, one byte per clock, as the analyser saves them

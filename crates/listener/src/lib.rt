@@ -1,9 +1,9 @@
 // The listener: what an analyser saved of the wire, one byte per clock, read back as answer records (document 02, E1).
 use frame::Answer;
 use frame::Frame;
+use frame::Steps;
 use frame::Transaction;
 use frame::Turnaround;
-use machine::Steps;
 use verdict::Verdict;
 use verdict::check_bytes;
 use wire::Follower;

@@ -16,8 +16,8 @@ use Rattle.board.specs.declared.Board.{Board}
 use Rattle.board.specs.Check.{checked}
 use Rattle.board.specs.Events.{eventsVerdict}
 use Rattle.board.proofs.LoadSound.{load-sound}
-use Rattle.machine.specs.Plain.{planning}
-use Rattle.machine.proofs.Accepts.{room-done, room-fits}
+use Rattle.plain_machine.specs.Plain.{planning}
+use Rattle.verdict.proofs.Outputs.{room-done, room-fits}
 use Rattle.agreement.specs.Exchange.{logOfExchange}
 use Rattle.agreement.proofs.ExchangeCalls.{few, one-by-one}
 use Rattle.listener.specs.Listening.{captureVerdict, recordsIn, listening}

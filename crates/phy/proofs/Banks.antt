@@ -13,7 +13,7 @@ use Rattle.verdict.specs.Bits.{bit}
 use Rattle.phy.specs.declared.Phy.{Phy}
 use Rattle.phy.specs.Abilities.{one, ableFull, ableHalf}
 use Rattle.phy.specs.Words.{setBit, clearBit}
-use Rattle.phy.specs.Fields.{registerOf, defaultOf, maskOf, withBank}
+use Rattle.phy.specs.Fields.{registerOf, defaultOf, maskOf, withRegisters, withRegister, sets, clears, withLink}
 use Rattle.phy.specs.Control.{speedAble}
 use Rattle.phy.specs.Registers.{inReset, masked, writeOrdinary, heldAfter, readStatus}
 use Rattle.phy.specs.Events.{completes, happening, event}
@@ -100,10 +100,10 @@ pub changed : (p : Phy) → Bank p → (registers : List ℕ) (link : Bool) (con
     → ((i : ℕ) → i < 16 → bit i (getD registers 15 0) ≡ bit i (registerOf 15 p))
     → SameBut status (registerOf 1 p)
     → ControlClauses control (registerOf 1 p) (registerOf 15 p)
-    → resetStands (withBank registers link p) ≡ true
+    → resetStands (withLink link (withRegisters registers p)) ≡ true
     → (one 5 status implies (one 12 control && not (one 9 control))) ≡ true
     → (one 2 status implies link) ≡ true
-    → Bank (withBank registers link p)
+    → Bank (withLink link (withRegisters registers p))
 unfolding registersStand
 changed p old registers link control status zeroth first above able held words reset complete up =
     record {
@@ -119,7 +119,7 @@ changed p old registers link control status zeroth first above able held words r
     go r true e = refl
     go r false e = above r (leb-false r 1 e)
 
-module _ (p : Phy) (words : Words (p .registers)) (old : Bank p) where
+module _ (p : Phy) (words : Words 32 (p .registers)) (old : Bank p) where
   abbrev control : ℕ
   control = registerOf 0 p
 
@@ -132,7 +132,7 @@ module _ (p : Phy) (words : Words (p .registers)) (old : Bank p) where
   -- registers 0 and 1 stored, outside reset
   pub both-stored : (new held : ℕ) (link : Bool) → one 15 new ≡ false → SameBut held status → ControlClauses new status extended
       → (one 5 held implies (one 12 new && not (one 9 new))) ≡ true → (one 2 held implies link) ≡ true
-      → Bank (withBank (set (set (p .registers) 0 new) 1 held) link p)
+      → Bank (withLink link (withRegister 1 held (withRegister 0 new p)))
   both-stored new held link out same right complete up =
       changed p old (set (set (p .registers) 0 new) 1 held) link new held zeroth
       (getD-set-same (set (p .registers) 0 new) 1 held 0 (omega (arith, length-set (p .registers) 0 new, words .long)))
@@ -149,15 +149,15 @@ module _ (p : Phy) (words : Words (p .registers)) (old : Bank p) where
   -- one of them stored: the other as it was
   pub status-stored : (held : ℕ) (link : Bool) → one 15 control ≡ false → SameBut held status
       → (one 5 held implies (one 12 control && not (one 9 control))) ≡ true → (one 2 held implies link) ≡ true
-      → Bank (withBank (set (p .registers) 1 held) link p)
+      → Bank (withLink link (withRegister 1 held p))
   status-stored held link out same complete up =
-      subst (λ (l : List ℕ). Bank (withBank (set l 1 held) link p)) (set-getD (p .registers) 0 0)
+      subst (λ (l : List ℕ). Bank (withLink link (withRegister 1 held (withRegisters l p)))) (set-getD (p .registers) 0 0)
       (both-stored control held link out same (old .control) complete up)
 
   pub control-stored : (new : ℕ) → one 15 new ≡ false → ControlClauses new status extended
-      → (one 5 status implies (one 12 new && not (one 9 new))) ≡ true → Bank (withBank (set (p .registers) 0 new) (p .link) p)
+      → (one 5 status implies (one 12 new && not (one 9 new))) ≡ true → Bank (withRegister 0 new p)
   control-stored new out right complete =
-      subst (λ (l : List ℕ). Bank (withBank l (p .link) p)) same
+      subst (λ (l : List ℕ). Bank (withRegisters l p)) same
       (both-stored new status (p .link) out (λ i off. refl) right complete (old .held-link-up))
     where
       same : set (set (p .registers) 0 new) 1 status ≡ set (p .registers) 0 new
@@ -181,7 +181,7 @@ module _ (p : Phy) (words : Words (p .registers)) (old : Bank p) where
       }
 
   -- "6 clears 0.9"
-  restart-done : one 15 control ≡ false → Bank (withBank (set (p .registers) 0 (clearBit 9 control)) (p .link) p)
+  restart-done : one 15 control ≡ false → Bank (clears 0 9 p)
   restart-done out =
       control-stored (clearBit 9 control) (rw (clear-other 9 15 control (omega arith)) out)
       (cleared 9 (omega arith) (omega arith) (omega arith) (omega arith) (omega arith) (rw (clear-same 9 control)) (omega arith))
@@ -193,7 +193,7 @@ module _ (p : Phy) (words : Words (p .registers)) (old : Bank p) where
       weaker true false c h = h
 
   -- "7 clears 0.15"
-  reset-done : Bank (withBank (set (p .registers) 0 (clearBit 15 control)) (p .link) p)
+  reset-done : Bank (clears 0 15 p)
   reset-done =
       control-stored (clearBit 15 control) (rw (clear-same 15 control))
       (cleared 15 (omega arith) (omega arith) (omega arith) (omega arith) (omega arith)
@@ -202,7 +202,7 @@ module _ (p : Phy) (words : Words (p .registers)) (old : Bank p) where
 
   -- "3 sets 1.4; 4 sets 1.1"
   status-set : (i : ℕ) → one i heldBits ≡ true → (5 ≡ i → ⊥) → (2 ≡ i → ⊥) → one 15 control ≡ false
-      → Bank (withBank (set (p .registers) 1 (setBit i status)) (p .link) p)
+      → Bank (sets 1 i p)
   status-set i held n5 n2 out =
       status-stored (setBit i status) (p .link) out (λ j off. set-other i j status (outside heldBits i j held off))
       (rw (set-other i 5 status n5) (old .complete-negotiates))
@@ -213,7 +213,7 @@ module _ (p : Phy) (words : Words (p .registers)) (old : Bank p) where
   unfolding completes
   completed out = go (one 12 control && not (one 9 control)) refl
     where
-      go : (t : Bool) → (one 12 control && not (one 9 control)) ≡ t → Bank (cond t (withBank (set (p .registers) 1 (setBit 5 status)) (p .link) p) p)
+      go : (t : Bool) → (one 12 control && not (one 9 control)) ≡ t → Bank (cond t (sets 1 5 p) p)
       go true e =
           status-stored (setBit 5 status) (p .link) out (λ j off. set-other 5 j status (outside heldBits 5 j refl off))
           (rw e (or-true (not (one 5 (setBit 5 status)))))
@@ -221,14 +221,14 @@ module _ (p : Phy) (words : Words (p .registers)) (old : Bank p) where
       go false e = old
 
   -- "2 link down (1.2 clears)"
-  link-down : one 15 control ≡ false → Bank (withBank (set (p .registers) 1 (clearBit 2 status)) false p)
+  link-down : one 15 control ≡ false → Bank (withLink false (clears 1 2 p))
   link-down out =
       status-stored (clearBit 2 status) false out (λ j off. clear-other 2 j status (outside heldBits 2 j refl off))
       (rw (clear-other 2 5 status (omega arith)) (old .complete-negotiates))
       (rw (clear-same 2 status))
 
   -- "1 link up (1.2 unchanged)"
-  link-up : one 15 control ≡ false → Bank (withBank (p .registers) true p)
+  link-up : one 15 control ≡ false → Bank (withLink true p)
   link-up out =
       changed p old (p .registers) true control status refl refl (λ r l. refl) (λ i l. refl) (λ i off. refl)
       (old .control) (rw out) (old .complete-negotiates) (or-true (not (one 2 status)))
@@ -268,7 +268,7 @@ module _ (p : Phy) (words : Words (p .registers)) (old : Bank p) where
       up true = or-true (not (one 2 (heldAfter true status)))
       up false = rw (held-link false status)
 
-      go : (t : Bool) → one 15 control ≡ t → Bank (withBank (set (p .registers) 1 (heldAfter (p .link) status)) (p .link) p)
+      go : (t : Bool) → one 15 control ≡ t → Bank (withRegister 1 (heldAfter (p .link) status) p)
       go false out =
           status-stored (heldAfter (p .link) status) (p .link) out
           (λ j off. held-others (p .link) status j (outside heldBits 4 j refl off) (outside heldBits 2 j refl off) (outside heldBits 1 j refl off))
@@ -280,7 +280,7 @@ module _ (p : Phy) (words : Words (p .registers)) (old : Bank p) where
           let at-default : status ≡ defaultOf 1 p = eqb-true status (defaultOf 1 p) (every-each _ registerCount (others .0) 1 (omega arith)) in
           let none : heldAfter false status ≡ status = rw at-default (nothing-held (defaultOf 1 p) clear) in
           let kept : heldAfter (p .link) status ≡ status = ap (λ l. heldAfter l status) (not-true (p .link) (others .1)) ∙ none in
-          subst (λ (l : List ℕ). Bank (withBank l (p .link) p)) (sym (ap (set (p .registers) 1) kept ∙ set-getD (p .registers) 1 0)) old
+          subst (λ (l : List ℕ). Bank (withRegisters l p)) (sym (ap (set (p .registers) 1) kept ∙ set-getD (p .registers) 1 0)) old
 
   -- "Ordinary: masked bits take the data, others stay."
   pub ordinary-bank : (r word : ℕ) → (r ≡ 0 → ⊥) → (r ≡ 1 → ⊥) → r < 32 → maskOf 15 p ≡ 0 → one 15 control ≡ false → Bank (writeOrdinary r word p)

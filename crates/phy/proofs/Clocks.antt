@@ -9,65 +9,69 @@ use Rattle.wire.specs.declared.Drive.the-variants.{Released, Driven}
 use Rattle.wire.specs.declared.Follower.{Follower}
 use Rattle.wire.specs.declared.Follower.the-variants.{Hunting, Inside}
 use Rattle.wire.specs.Follower.{follow, headerSeen, answering}
+use Rattle.phy.specs.declared.own.Own.{Own}
 use Rattle.phy.specs.declared.Phy.{Phy}
 use Rattle.phy.specs.Abilities.{one}
+use Rattle.phy.specs.Own.{answers, drivesIn}
 use Rattle.phy.specs.Fields.{withFollower}
-use Rattle.phy.specs.Clock.{enough, answers, drivesIn, drives, actsIn, clock}
+use Rattle.phy.specs.Clock.{enough, drives, actsIn, clock}
 
 pub clock-by : (level : Bool) (phy : Phy) (f : Follower) → phy .follower ≡ f
     → clock level phy ≡ withFollower (follow (enough phy) level (phy .follower)) (actsIn f level phy)
 unfolding clock
 clock-by level phy f e = ap (λ (g : Follower). withFollower (follow (enough phy) level (phy .follower)) (actsIn g level phy)) e
 
--- hunting, nothing is driven
-pub drives-hunting : (phy : Phy) (ones : ℕ) → phy .follower ≡ Hunting ones → drives phy ≡ Released
-unfolding drivesIn
-drives-hunting phy ones e = ap (λ (f : Follower). drivesIn f phy) e
-
-module _ (phy : Phy) (seen bits : ℕ) (now : phy .follower ≡ Inside seen bits) where
-  inside : drives phy ≡ cond (answers (headerSeen seen bits) phy) (answering seen (phy .captured)) Released
+-- What is driven goes by whom frames are for, the captured word and the follower
+module _ (own : Own) (captured : ℕ) (f : Follower) where
+  -- hunting, nothing is driven
+  pub drives-hunting : (ones : ℕ) → f ≡ Hunting ones → drivesIn f captured own ≡ Released
   unfolding drivesIn
-  inside = ap (λ (f : Follower). drivesIn f phy) now
+  drives-hunting ones now = ap (λ (g : Follower). drivesIn g captured own) now
 
-  -- in a frame that is no own read of an implemented register nothing is driven
-  pub drives-other : answers (headerSeen seen bits) phy ≡ false → drives phy ≡ Released
-  drives-other e = inside ∙ ap (λ (t : Bool). cond t (answering seen (phy .captured)) Released) e
+  module _ (seen bits : ℕ) (now : f ≡ Inside seen bits) where
+    inside : drivesIn f captured own ≡ cond (answers (headerSeen seen bits) own) (answering seen captured) Released
+    unfolding drivesIn
+    inside = ap (λ (g : Follower). drivesIn g captured own) now
 
-  -- in an own read the answer is driven
-  pub drives-own : answers (headerSeen seen bits) phy ≡ true → drives phy ≡ answering seen (phy .captured)
-  drives-own e = inside ∙ ap (λ (t : Bool). cond t (answering seen (phy .captured)) Released) e
+    -- in a frame that is no own read of an implemented register nothing is driven
+    pub drives-other : answers (headerSeen seen bits) own ≡ false → drivesIn f captured own ≡ Released
+    drives-other e = inside ∙ ap (λ (t : Bool). cond t (answering seen captured) Released) e
 
-  nothing : answering seen (phy .captured) ≡ Released → drives phy ≡ Released
-  nothing e = go (answers (headerSeen seen bits) phy) refl
-    where
-      go : (t : Bool) → answers (headerSeen seen bits) phy ≡ t → drives phy ≡ Released
-      go true own = drives-own own ∙ e
-      go false other = drives-other other
+    -- in an own read the answer is driven
+    pub drives-own : answers (headerSeen seen bits) own ≡ true → drivesIn f captured own ≡ answering seen captured
+    drives-own e = inside ∙ ap (λ (t : Bool). cond t (answering seen captured) Released) e
 
-  -- before bit 16 nothing is driven, "released for bit 15" too, nor past bit 32
-  pub drives-early : seen < 15 → drives phy ≡ Released
-  unfolding answering
-  drives-early h = nothing (rw (ne-eqb seen 15 (omega arith), lt-leb 16 seen (omega arith)))
+    nothing : answering seen captured ≡ Released → drivesIn f captured own ≡ Released
+    nothing e = go (answers (headerSeen seen bits) own) refl
+      where
+        go : (t : Bool) → answers (headerSeen seen bits) own ≡ t → drivesIn f captured own ≡ Released
+        go true read = drives-own read ∙ e
+        go false other = drives-other other
 
-  pub drives-late : 31 < seen → drives phy ≡ Released
-  unfolding answering
-  drives-late h = nothing (rw (ne-eqb seen 15 (omega arith), le-leb 16 seen (omega arith), lt-leb seen 31 h))
+    -- before bit 16 nothing is driven, "released for bit 15" too, nor past bit 32
+    pub drives-early : seen < 15 → drivesIn f captured own ≡ Released
+    unfolding answering
+    drives-early h = nothing (rw (ne-eqb seen 15 (omega arith), lt-leb 16 seen (omega arith)))
 
-  -- "drives 0 for bit 16, the word for bits 17 to 32"
-  pub drives-zero : seen ≡ 15 → answers (headerSeen seen bits) phy ≡ true → drives phy ≡ Driven false
-  unfolding answering
-  drives-zero h own = drives-own own ∙ rw (eq-eqb seen 15 h)
+    pub drives-late : 31 < seen → drivesIn f captured own ≡ Released
+    unfolding answering
+    drives-late h = nothing (rw (ne-eqb seen 15 (omega arith), le-leb 16 seen (omega arith), lt-leb seen 31 h))
 
-  pub drives-word : 16 ≤ seen → seen ≤ 31 → answers (headerSeen seen bits) phy ≡ true → drives phy ≡ Driven (one (31 - seen) (phy .captured))
-  unfolding answering
-  drives-word h l own = drives-own own ∙ rw (ne-eqb seen 15 (omega arith), le-leb 16 seen h, le-leb seen 31 l)
+    -- "drives 0 for bit 16, the word for bits 17 to 32"
+    pub drives-zero : seen ≡ 15 → answers (headerSeen seen bits) own ≡ true → drivesIn f captured own ≡ Driven false
+    unfolding answering
+    drives-zero h read = drives-own read ∙ rw (eq-eqb seen 15 h)
+
+    pub drives-word : 16 ≤ seen → seen ≤ 31 → answers (headerSeen seen bits) own ≡ true → drivesIn f captured own ≡ Driven (one (31 - seen) captured)
+    unfolding answering
+    drives-word h l read = drives-own read ∙ rw (ne-eqb seen 15 (omega arith), le-leb 16 seen h, le-leb seen 31 l)
 
 -- in an own read of an implemented register, with at least so many bits seen
 pub record OwnRead (least : ℕ) (phy : Phy) : Type 0 where
   pub seen : ℕ
   pub bits : ℕ
   pub now : phy .follower ≡ Inside seen bits
-  pub own : answers (headerSeen seen bits) phy ≡ true
+  pub own : answers (headerSeen seen bits) (phy .own) ≡ true
   pub from : least ≤ seen
   pub upto : seen ≤ 31
 
@@ -78,13 +82,13 @@ released level e = let z : _≡_ {A = ℕ} 0 1 = cc in absurd (omega arith)
 pub drives-only : (phy : Phy) (level : Bool) → drives phy ≡ Driven level → OwnRead 15 phy
 drives-only phy level e = go (phy .follower) refl
   where
-    by : (seen bits : ℕ) → phy .follower ≡ Inside seen bits → (a b t : Bool) → leb 15 seen ≡ a → leb seen 31 ≡ b → answers (headerSeen seen bits) phy ≡ t → OwnRead 15 phy
-    by seen bits now false b t early l own = released level (sym (drives-early phy seen bits now (leb-false 15 seen early)) ∙ e)
-    by seen bits now true false t f late own = released level (sym (drives-late phy seen bits now (leb-false seen 31 late)) ∙ e)
-    by seen bits now true true false f l other = released level (sym (drives-other phy seen bits now other) ∙ e)
+    by : (seen bits : ℕ) → phy .follower ≡ Inside seen bits → (a b t : Bool) → leb 15 seen ≡ a → leb seen 31 ≡ b → answers (headerSeen seen bits) (phy .own) ≡ t → OwnRead 15 phy
+    by seen bits now false b t early l own = released level (sym (drives-early _ _ _ seen bits now (leb-false 15 seen early)) ∙ e)
+    by seen bits now true false t f late own = released level (sym (drives-late _ _ _ seen bits now (leb-false seen 31 late)) ∙ e)
+    by seen bits now true true false f l other = released level (sym (drives-other _ _ _ seen bits now other) ∙ e)
     by seen bits now true true true f l own =
         record { seen = seen; bits = bits; now = now; own = own; from = leb-true 15 seen f; upto = leb-true seen 31 l }
 
     go : (f : Follower) → phy .follower ≡ f → OwnRead 15 phy
-    go (Hunting ones) now = released level (sym (drives-hunting phy ones now) ∙ e)
-    go (Inside seen bits) now = by seen bits now (leb 15 seen) (leb seen 31) (answers (headerSeen seen bits) phy) refl refl refl
+    go (Hunting ones) now = released level (sym (drives-hunting _ _ _ ones now) ∙ e)
+    go (Inside seen bits) now = by seen bits now (leb 15 seen) (leb seen 31) (answers (headerSeen seen bits) (phy .own)) refl refl refl

@@ -12,7 +12,7 @@ use Rattle.verdict.specs.Bits.{bit, shiftIn}
 use Rattle.phy.specs.declared.Phy.{Phy}
 use Rattle.phy.specs.Abilities.{one, ableFull, ableHalf}
 use Rattle.phy.specs.Words.{setBit, clearBit}
-use Rattle.phy.specs.Fields.{registerOf, defaultOf, maskOf, withBank}
+use Rattle.phy.specs.Fields.{registerOf, defaultOf, maskOf, withRegisters, withRegister, withLink}
 use Rattle.phy.specs.Control.{reset, speedAble, speedFrom, newBit12, newBit9, duplexBit, newBit8, newBit5, newBits, newControl, newStatus, writeControl}
 use Rattle.phy.specs.Clock.{fresh}
 use Rattle.phy.specs.Typed.{Words}
@@ -100,12 +100,12 @@ module _ (status extended old word : ℕ) where
       go false = refl
 
 -- "Bit 15 one: all registers to default, link down, 0.15 one": as a fresh PHY, but for bit 15
-module _ (p : Phy) (words : Words (p .defaults)) (right : wordsRight (defaultOf 0 p) (defaultOf 1 p) (defaultOf 15 p) ≡ true) where
+module _ (p : Phy) (words : Words 32 (p .defaults)) (right : wordsRight (defaultOf 0 p) (defaultOf 1 p) (defaultOf 15 p) ≡ true) where
   abbrev loaded : Phy
-  loaded = fresh (p .address) (p .implemented) (p .defaults) (p .masks)
+  loaded = fresh (p .own) (p .defaults) (p .masks)
 
   begins : Bank loaded
-  begins = sound-clauses loaded (fresh-sound (p .address) (p .implemented) (p .defaults) (p .masks) right) .bank
+  begins = sound-clauses loaded (fresh-sound (p .own) (p .defaults) (p .masks) right) .bank
 
   abbrev control : ℕ
   control = setBit 15 (defaultOf 0 p)
@@ -134,7 +134,7 @@ module _ (p : Phy) (words : Words (p .defaults)) (right : wordsRight (defaultOf 
         reserved-clear = let low : control % 2 ^ 5 ≡ defaultOf 0 p % 2 ^ 5 = omega arith in rw low (now .reserved-clear);
       }
 
-  others-stand : othersAtDefault (withBank registers false loaded) ≡ true
+  others-stand : othersAtDefault (withLink false (withRegisters registers loaded)) ≡ true
   unfolding othersAtDefault
   others-stand = each-every _ registerCount (λ r l. go r (leb r 0) refl)
     where
@@ -150,7 +150,7 @@ module _ (p : Phy) (words : Words (p .defaults)) (right : wordsRight (defaultOf 
       go i true e = refl
       go i false e = eq-eqb _ _ (same i (outside (2 ^ 15) 15 i refl e))
 
-  at-reset : Bank (withBank registers false loaded)
+  at-reset : Bank (withLink false (withRegisters registers loaded))
   at-reset =
       changed loaded begins registers false control (defaultOf 1 p) zeroth (above 1 (omega arith))
       (λ r l. ap (λ (w : ℕ). standsOutside (maskOf r p) w (defaultOf r p)) (above r (omega arith)))
@@ -172,7 +172,7 @@ module _ (p : Phy) (words : Words (p .defaults)) (right : wordsRight (defaultOf 
       }
 
 -- register 0 on a write, outside reset
-pub control-bank : (word : ℕ) (p : Phy) → Words (p .defaults) → Words (p .registers)
+pub control-bank : (word : ℕ) (p : Phy) → Words 32 (p .defaults) → Words 32 (p .registers)
     → wordsRight (defaultOf 0 p) (defaultOf 1 p) (defaultOf 15 p) ≡ true → Bank p → Bank (writeControl word p)
 unfolding writeControl
 control-bank word p defaults words right old = go (one 15 word)
@@ -186,7 +186,7 @@ control-bank word p defaults words right old = go (one 15 word)
     new : ℕ
     new = newControl status extended (registerOf 0 p) word
 
-    go : (t : Bool) → Bank (cond t (reset p) (withBank (set (set (p .registers) 0 new) 1 (newStatus status word)) (p .link) p))
+    go : (t : Bool) → Bank (cond t (reset p) (withRegister 1 (newStatus status word) (withRegister 0 new p)))
     go true = reset-bank p defaults right
     go false =
         both-stored p words old new (newStatus status word) (p .link)

@@ -14,7 +14,7 @@ use Rattle.phy.specs.Computing.{computing}
 
 -- "Board P: address 1, mask 0000000F, defaults 3000, 7849, 0, 0"
 abbrev pub phyP : Phy
-phyP = fresh 1 0x0000000F (0x3000 ∷ 0x7849 ∷ replicate 30 0) (replicate 32 0)
+phyP = fresh (record { address = 1; implemented = 0x0000000F }) (0x3000 ∷ 0x7849 ∷ replicate 30 0) (replicate 32 0)
 
 -- what stands in register 0 after a write
 abbrev controlAfter : ℕ → ℕ
@@ -86,7 +86,7 @@ word-goes-on = refl
 
 -- A Clause 45 write of 0ABC to port 10, device 3, on the wire of a PHY at address 1 that accepts suppressed preambles (1.6 is one) and has register 24 to write: 00, 01, 01010, 00011, 10, then the word
 abbrev pub phyFast : Phy
-phyFast = fresh 1 0x0100000F (0x3000 ∷ 0x7849 ∷ replicate 30 0) (replicate 24 0 ++ (0xFFFF ∷ replicate 7 0))
+phyFast = fresh (record { address = 1; implemented = 0x0100000F }) (0x3000 ∷ 0x7849 ∷ replicate 30 0) (replicate 24 0 ++ (0xFFFF ∷ replicate 7 0))
 
 abbrev payload : List Bool
 payload =

@@ -71,8 +71,8 @@ pub foreign-released : (phy : Phy) (seen bits : ℕ) → phy .follower ≡ Insid
 foreign-released phy seen bits now f = go (leb 14 seen) refl
   where
     go : (b : Bool) → leb 14 seen ≡ b → drives phy ≡ Released
-    go false few = drives-early phy seen bits now (omega (arith, leb-false 14 seen few))
-    go true headed = drives-other phy seen bits now (foreign-unanswered _ phy (not-ours seen bits (leb-true 14 seen headed) (f .zeros)))
+    go false few = drives-early _ _ _ seen bits now (omega (arith, leb-false 14 seen few))
+    go true headed = drives-other _ _ _ seen bits now (foreign-unanswered _ (phy .own) (not-ours seen bits (leb-true 14 seen headed) (f .zeros)))
 
 -- a bit of it is one bit more and nothing else, also its 14th
 module _ (level : Bool) (seen bits w : ℕ) (phy : Phy) (f : Foreign seen bits) where
@@ -88,7 +88,7 @@ module _ (level : Bool) (seen bits w : ℕ) (phy : Phy) (f : Foreign seen bits) 
           ∙ ap (λ g. withLine g w phy) (goes-on (enough phy) level seen bits before ∙ ap (λ (k : ℕ). Inside k more) (add-one seen))
       go (yes e) =
           let zeros : more < 2 ^ (14 - 2) = rw e at (more-zeros level seen bits f) in
-          let silent = foreign-unanswered (headerSeen 14 more) phy (not-ours 14 more (omega arith) zeros) in
+          let silent = foreign-unanswered (headerSeen 14 more) (phy .own) (not-ours 14 more (omega arith) zeros) in
           ap (λ (k : ℕ). clock level (withLine (Inside k bits) w phy)) e
           ∙ clock-header level bits w phy
           ∙ ap₂ (λ (v : ℕ) (p : Phy). withLine (Inside 14 more) v p) (ap (λ b. cond b (word (headerSeen 14 more) phy) w) silent) (afterHeader-silent (headerSeen 14 more) phy silent)
@@ -100,7 +100,7 @@ module _ (level : Bool) (seen bits w : ℕ) (phy : Phy) (f : Foreign seen bits) 
       let zeros : more < 2 ^ (32 - 2) = rw e at (more-zeros level seen bits f) in
       ap (λ (k : ℕ). clock level (withLine (Inside k bits) w phy)) e
       ∙ clock-frame level bits w phy
-      ∙ ap (withLine (Hunting 0) 0) (afterFrame-silent _ phy _ (foreign-unstored (headerSeen 32 more) phy (not-ours 32 more (omega arith) zeros)))
+      ∙ ap (withLine (Hunting 0) 0) (afterFrame-silent _ phy _ (foreign-unstored (headerSeen 32 more) (phy .own) (not-ours 32 more (omega arith) zeros)))
 
 -- Any PHYs, and any events between the clocks
 module _ (happens : ℕ → Phy → Phy) (events : (c : ℕ) → Effect (happens c)) where
@@ -180,9 +180,10 @@ module _ (happens : ℕ → Phy → Phy) (events : (c : ℕ) → Effect (happens
   pub foreign-silent : (levels : List Bool) (c : ℕ) (phys : List Phy) → length levels < 30 →
       All (λ p. drives p ≡ Released) (hearing (false ∷ levels) c (following (Inside 1 0) phys))
   foreign-silent levels c phys short =
+      let put : Phy → Phy = withLine (Inside (2 + length levels) (shown 0 levels)) 0 in
       subst (All (λ p. drives p ≡ Released)) (sym (foreign-inside levels c phys short))
-      (all-map-of (λ p. drives p ≡ Released) (withLine (Inside (2 + length levels) (shown 0 levels)) 0) (quiet (phyCore happens) c (suc (length levels)) phys)
-      (λ p. foreign-released _ (2 + length levels) (shown 0 levels) refl (foreign-later levels 2 0 start-00 (omega arith))))
+      (all-map-of (λ p. drives p ≡ Released) put (quiet (phyCore happens) c (suc (length levels)) phys)
+      (λ p. foreign-released (put p) (2 + length levels) (shown 0 levels) refl (foreign-later levels 2 0 start-00 (omega arith))))
 
   -- so no station, and no other PHY, can make them do anything by such a frame
   pub foreign-run : (ds : List Drive) (levels : List Bool) (c : ℕ) (phys : List Phy) → length levels ≡ 30 →

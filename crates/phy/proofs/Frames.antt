@@ -13,12 +13,12 @@ use Rattle.wire.specs.Follower.{oneMore, follow, headerSeen}
 use Rattle.wire.proofs.Followers.{more-fits, header-stays, follow-keeps, goes-on}
 use Rattle.phy.specs.declared.Phy.{Phy}
 use Rattle.phy.specs.Fields.{withLine}
-use Rattle.phy.specs.Registers.{implements}
-use Rattle.phy.specs.Clock.{enough, answers, word, afterHeader, clock}
+use Rattle.phy.specs.Own.{answers}
+use Rattle.phy.specs.Clock.{enough, word, afterHeader, clock}
 use Rattle.phy.proofs.Clocks.{OwnRead}
 use Rattle.phy.proofs.Lines.{clock-hunting, clock-inside, clock-header, clock-frame}
 use Rattle.phy.proofs.Effects.{afterHeader-effect}
-use Rattle.phy.proofs.Keeping.{keeps-answers}
+use Rattle.phy.proofs.Keeping.{keeps-own}
 
 -- "hunting with 0 to 32 ones, or inside a frame with 1 to 31 bits, the first 0"
 abbrev pub Started : Follower → Type 0
@@ -38,11 +38,11 @@ CapturedOnly phy = (phy .captured ≡ 0) ⊎ OwnRead 14 phy
 
 -- what is known of an own read with these bits
 pub own-here : (phy : Phy) (seen bits : ℕ) → phy .follower ≡ Inside seen bits → OwnRead 14 phy
-    → (14 ≤ seen) × (answers (headerSeen seen bits) phy ≡ true)
+    → (14 ≤ seen) × (answers (headerSeen seen bits) (phy .own) ≡ true)
 own-here phy seen bits now read =
     let same-seen : read .seen ≡ seen = cc (read .now) in
     let same-bits : read .bits ≡ bits = cc (read .now) in
-    (omega (arith, read .from), ap₂ (λ (n b : ℕ). answers (headerSeen n b) phy) (sym same-seen) (sym same-bits) ∙ read .own)
+    (omega (arith, read .from), ap₂ (λ (n b : ℕ). answers (headerSeen n b) (phy .own)) (sym same-seen) (sym same-bits) ∙ read .own)
 
 -- a clock keeps that, of a frame that started as it must
 module _ (level : Bool) (phy : Phy) where
@@ -52,7 +52,6 @@ module _ (level : Bool) (phy : Phy) where
 
   went-on : (seen bits : ℕ) → phy .follower ≡ Inside seen bits → Started (Inside seen bits) → (seen ≡ 13 → ⊥) → (seen ≡ 31 → ⊥)
       → CapturedOnly phy → CapturedOnly (clock level phy)
-  unfolding answers implements
   went-on seen bits now s n13 n31 only = subst CapturedOnly (sym is) (after only)
     where
       next : Follower
@@ -69,15 +68,14 @@ module _ (level : Bool) (phy : Phy) where
             seen = suc seen;
             bits = oneMore bits level;
             now = goes-on (enough phy) level seen bits (omega arith) ∙ ap (λ (k : ℕ). Inside k (oneMore bits level)) (add-one seen);
-            own = ap (λ h. answers h phy) (header-stays (seen - 1) bits (s .2) (omega arith) level seen (own .0)) ∙ own .1;
+            own = ap (λ h. answers h (phy .own)) (header-stays (seen - 1) bits (s .2) (omega arith) level seen (own .0)) ∙ own .1;
             from = omega arith;
             upto = omega arith;
           }
 
   -- at the 14th bit the read under way, if it is one, has its word
   headed : (bits : ℕ) → phy .follower ≡ Inside 13 bits → CapturedOnly phy → CapturedOnly (clock level phy)
-  unfolding answers implements
-  headed bits now only = subst CapturedOnly (sym is) (by (answers header phy) refl only)
+  headed bits now only = subst CapturedOnly (sym is) (by (answers header (phy .own)) refl only)
     where
       header : Header
       header = headerSeen 14 (oneMore bits level)
@@ -85,16 +83,16 @@ module _ (level : Bool) (phy : Phy) where
       after : ℕ → Phy
       after w = withLine (Inside 14 (oneMore bits level)) w (afterHeader header phy)
 
-      is : clock level phy ≡ after (cond (answers header phy) (word header phy) (phy .captured))
+      is : clock level phy ≡ after (cond (answers header (phy .own)) (word header phy) (phy .captured))
       is = ap (λ f. clock level (withLine f (phy .captured) phy)) now ∙ clock-header level bits (phy .captured) phy
 
-      by : (t : Bool) → answers header phy ≡ t → CapturedOnly phy → CapturedOnly (after (cond t (word header phy) (phy .captured)))
+      by : (t : Bool) → answers header (phy .own) ≡ t → CapturedOnly phy → CapturedOnly (after (cond t (word header phy) (phy .captured)))
       by true own any =
           inr record {
             seen = 14;
             bits = oneMore bits level;
             now = refl;
-            own = keeps-answers (afterHeader-effect header) phy header ∙ own;
+            own = ap (answers header) (keeps-own (afterHeader-effect header) phy) ∙ own;
             from = omega arith;
             upto = omega arith;
           }

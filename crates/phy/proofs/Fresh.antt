@@ -7,6 +7,7 @@ use native.Mathlib.Omega.{arith}
 use lib.Dec.{eqb, leb}
 use borrow.Author.Tests.{eq-eqb, eqb-true, not-true}
 use Rattle.verdict.specs.Bits.{bit}
+use Rattle.phy.specs.declared.own.Own.{Own}
 use Rattle.phy.specs.declared.Phy.{Phy}
 use Rattle.phy.specs.Abilities.{one, able10, able100, able1000, ableHalf, ableFull}
 use Rattle.phy.specs.Control.{speedAble}
@@ -106,7 +107,7 @@ duplex-right : (eight full half : Bool) → eight ≡ not half → (eight || (ha
 duplex-right eight full true e = rw e
 duplex-right eight full false e = rw e (or-true full)
 
-module _ (address implemented : ℕ) (defaults masks : List ℕ) where
+module _ (own : Own) (defaults masks : List ℕ) where
   abbrev control : ℕ
   control = word defaults 0
 
@@ -117,7 +118,7 @@ module _ (address implemented : ℕ) (defaults masks : List ℕ) where
   extended = word defaults 15
 
   abbrev new : Phy
-  new = fresh address implemented defaults masks
+  new = fresh own defaults masks
 
   fresh-control : ControlBits control status extended → someAbility status extended ≡ true → ControlClauses control status extended
   fresh-control at some =

@@ -10,8 +10,9 @@ use Rattle.verdict.specs.Bits.{bit}
 use Rattle.phy.specs.declared.Phy.{Phy}
 use Rattle.phy.specs.Abilities.{one}
 use Rattle.phy.specs.Words.{clearBit}
+use Rattle.phy.specs.Own.{implements}
 use Rattle.phy.specs.Fields.{registerOf}
-use Rattle.phy.specs.Registers.{implements, inReset, masked, heldAfter, readStatus, afterRead, writeBy, afterWrite}
+use Rattle.phy.specs.Registers.{inReset, masked, heldAfter, readStatus, afterRead, writeBy, afterWrite}
 use Rattle.phy.specs.Events.{event}
 use Rattle.phy.proofs.Words.{pick-lt, set-other, clear-other, set-same, clear-same, bit-wordOf}
 
@@ -22,7 +23,7 @@ cond-same false a = refl
 -- "Register 1 ignores writes."
 pub status-ignores-writes : (word : ℕ) (phy : Phy) → afterWrite 1 word phy ≡ phy
 unfolding afterWrite writeBy
-status-ignores-writes word phy = cond-same (implements 1 phy && not (inReset phy)) phy
+status-ignores-writes word phy = cond-same (implements 1 (phy .own) && not (inReset phy)) phy
 
 -- "In reset all writes are ignored"
 pub reset-ignores-writes : (r word : ℕ) (phy : Phy) → inReset phy ≡ true → afterWrite r word phy ≡ phy

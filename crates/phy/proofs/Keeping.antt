@@ -1,21 +1,23 @@
--- What every effect and every clock keeps of a PHY: its record, `enough`, whom it answers, its types.
+-- What every effect and every clock keeps of a PHY: its record, and with it whom frames are for, `enough`, its types.
 use Prim.Native.Nat.{ℕ, _+_, _%_, _^_, _≤_, _<_}
 use mathlib.Core.Path.{_≡_, refl, sym, ap, subst, _∙_}
 use mathlib.Core.Bool.{Bool, true, false, cond}
 use mathlib.Core.List.{List}
 use native.Mathlib.Omega.{arith}
 use lib.Dec.{eqb}
+use lib.ListN.{getD}
 use Rattle.wire.specs.declared.Follower.{Follower}
 use Rattle.wire.specs.declared.Follower.the-variants.{Hunting, Inside}
 use Rattle.wire.specs.declared.Header.{Header}
 use Rattle.wire.specs.Follower.{oneMore, follow, headerSeen}
 use Rattle.wire.proofs.Followers.{follow-keeps}
+use Rattle.phy.specs.declared.own.Own.{Own}
 use Rattle.phy.specs.declared.Phy.{Phy}
 use Rattle.phy.specs.Abilities.{one}
-use Rattle.phy.specs.Fields.{registerOf, defaultOf, recordOf, withBank, withLine}
-use Rattle.phy.specs.Registers.{implements}
-use Rattle.phy.specs.Clock.{fresh, enough, answers, stores, word, afterHeader, afterFrame, acts, atHeader, clock}
-use Rattle.phy.specs.Typed.{Words, TypedFollower, Typed, StatusFixed, Steady}
+use Rattle.phy.specs.Fields.{registerOf, defaultOf, recordOf, withLine}
+use Rattle.phy.specs.Own.{answers}
+use Rattle.phy.specs.Clock.{fresh, enough, word, afterHeader, afterFrame, acts, atHeader, clock}
+use Rattle.phy.specs.Typed.{Words, TypedOwn, TypedWords, TypedFollower, Typed, StatusFixed, Steady}
 use Rattle.phy.proofs.Clocks.{clock-by}
 use Rattle.phy.proofs.Effects.{Effect, nothing, afterHeader-effect, afterFrame-effect}
 
@@ -34,73 +36,52 @@ unfolding enough
 enough-fixed phy fixed =
     ap (λ (b : ℕ). cond (eqb b 1) 1 32) (fixed 6 (omega arith) (omega arith) (omega arith) (omega arith) (omega arith))
 
-typed-as : (registers : List ℕ) (link : Bool) (follower : Follower) (captured : ℕ) (q : Phy) → Typed q
-    → Words registers → TypedFollower follower → captured < 2 ^ 16 → Typed (withLine follower captured (withBank registers link q))
-typed-as registers link follower captured q t words tf small =
-    record {
-      address = t .address;
-      implemented = t .implemented;
-      defaults = t .defaults;
-      masks = t .masks;
-      registers = words;
-      follower = tf;
-      captured = small;
-    }
-
 -- Of an effect
 module _ {f : Phy → Phy} (effect : Effect f) (phy : Phy) where
-  -- an event or an effect never touches the follower nor the captured word
+  -- it cannot see the line, so it does not touch it: the PHY put onto its own line is itself
+  same-line : f phy ≡ withLine (phy .follower) (phy .captured) (f phy)
+  same-line = effect .blind (phy .follower) (phy .captured) phy
+
   pub keeps-follower : f phy .follower ≡ phy .follower
-  keeps-follower = ap (λ p. p .follower) (effect .bank phy)
+  keeps-follower = ap (λ p. p .follower) same-line
 
   pub keeps-captured : f phy .captured ≡ phy .captured
-  keeps-captured = ap (λ p. p .captured) (effect .bank phy)
+  keeps-captured = ap (λ p. p .captured) same-line
 
-  -- nor address, implemented mask, defaults, write masks
-  pub keeps-record : recordOf (f phy) ≡ recordOf phy
-  keeps-record = ap recordOf (effect .bank phy)
-
-  pub keeps-address : f phy .address ≡ phy .address
-  keeps-address = ap (λ p. p .address) (effect .bank phy)
-
-  -- so the PHY answers and stores as before
-  pub keeps-answers : (header : Header) → answers header (f phy) ≡ answers header phy
-  unfolding answers implements
-  keeps-answers header = ap (answers header) (effect .bank phy)
-
-  pub keeps-stores : (header : Header) → stores header (f phy) ≡ stores header phy
-  unfolding stores
-  keeps-stores header = ap (stores header) (effect .bank phy)
+  -- the record stays, so the same frames are for it: it answers and stores as before
+  pub keeps-own : f phy .own ≡ phy .own
+  keeps-own = ap (λ r. r .own) (effect .leaves phy)
 
   -- and as many ones are enough, where 1.6 stands at default
   pub keeps-enough : StatusFixed phy → enough (f phy) ≡ enough phy
   keeps-enough fixed =
       enough-fixed (f phy) (effect .fixed phy fixed)
-      ∙ ap (λ p. cond (one 6 (defaultOf 1 p)) 1 32) (effect .bank phy)
+      ∙ ap (λ r. cond (one 6 (getD (r .defaults) 1 0)) 1 32) (effect .leaves phy)
       ∙ sym (enough-fixed phy fixed)
 
   -- and every field stays within its type
   pub keeps-typed : Typed phy → Typed (f phy)
   keeps-typed t =
-      subst Typed (sym (effect .bank phy))
-      (typed-as (f phy .registers) (f phy .link) (phy .follower) (phy .captured) phy t
-      (effect .typed phy (t .defaults) (t .registers)) (t .follower) (t .captured))
+      record {
+        own = rw keeps-own (t .own);
+        words = effect .typed phy (t .words);
+        follower = rw keeps-follower (t .follower);
+        captured = rw keeps-captured (t .captured);
+      }
 
   -- what it rests on it keeps
   pub keeps-steady : Steady phy → Steady (f phy)
-  keeps-steady s =
-      record {
-        defaults = subst Words (sym (ap (λ p. p .defaults) (effect .bank phy))) (s .defaults);
-        registers = effect .typed phy (s .defaults) (s .registers);
-        fixed = effect .fixed phy (s .fixed);
-      }
+  keeps-steady s = record { words = effect .typed phy (s .words); fixed = effect .fixed phy (s .fixed) }
 
--- a follower and a captured word of any kind leave that too
+-- a line of any kind leaves that too
+line-words : (f : Follower) (w : ℕ) (phy : Phy) → TypedWords phy → TypedWords (withLine f w phy)
+line-words f w phy t = record { defaults = t .defaults; masks = t .masks; registers = t .registers }
+
 pub line-steady : (f : Follower) (w : ℕ) (phy : Phy) → Steady phy → Steady (withLine f w phy)
-line-steady f w phy s = record { defaults = s .defaults; registers = s .registers; fixed = s .fixed }
+line-steady f w phy s = record { words = line-words f w phy (s .words); fixed = s .fixed }
 
-pub word-small : (header : Header) (phy : Phy) → Steady phy → word header phy < 2 ^ 16
-word-small header phy s = s .registers .small (header .register)
+pub word-small : (header : Header) (phy : Phy) → TypedWords phy → word header phy < 2 ^ 16
+word-small header phy t = t .registers .small (header .register)
 
 -- a clock is the follower's move, a captured word, and an effect
 pub record Clocked (level : Bool) (phy : Phy) : Type 0 where
@@ -123,7 +104,7 @@ clocked level phy = go (phy .follower) refl
 
     go : (f : Follower) → phy .follower ≡ f → Clocked level phy
     go (Hunting ones) now = moves (clock-by level phy (Hunting ones) now)
-    go (Inside seen bits) now = by (eqb seen 13) (eqb seen 31) (answers header phy) refl refl refl
+    go (Inside seen bits) now = by (eqb seen 13) (eqb seen 31) (answers header (phy .own)) refl refl refl
       where
         after : ℕ
         after = oneMore bits level
@@ -131,13 +112,13 @@ clocked level phy = go (phy .follower) refl
         header : Header
         header = headerSeen 14 after
 
-        by : (a b own : Bool) → eqb seen 13 ≡ a → eqb seen 31 ≡ b → answers header phy ≡ own → Clocked level phy
+        by : (a b own : Bool) → eqb seen 13 ≡ a → eqb seen 31 ≡ b → answers header (phy .own) ≡ own → Clocked level phy
         by true b true e13 e31 own =
             record {
               does = afterHeader header;
               effect = afterHeader-effect header;
               captured = word header phy;
-              small = λ t. t .registers .small (header .register);
+              small = λ t. word-small header phy (t .words);
               is = clock-by level phy (Inside seen bits) now ∙ rw (e13, own);
             }
         by true b false e13 e31 other = moves (clock-by level phy (Inside seen bits) now ∙ rw (e13, other))
@@ -157,11 +138,10 @@ module _ (level : Bool) (phy : Phy) where
   of = clocked level phy
 
   pub clock-record : recordOf (clock level phy) ≡ recordOf phy
-  clock-record = ap recordOf (of .is) ∙ keeps-record (of .effect) phy
+  clock-record = ap recordOf (of .is) ∙ of .effect .leaves phy
 
-  pub clock-answers : (header : Header) → answers header (clock level phy) ≡ answers header phy
-  unfolding answers implements
-  clock-answers header = ap (answers header) (of .is) ∙ keeps-answers (of .effect) phy header
+  pub clock-own : clock level phy .own ≡ phy .own
+  clock-own = ap (λ r. r .own) clock-record
 
   pub clock-enough : StatusFixed phy → enough (clock level phy) ≡ enough phy
   unfolding enough
@@ -174,9 +154,12 @@ module _ (level : Bool) (phy : Phy) where
   clock-typed t =
       let after = keeps-typed (of .effect) phy t in
       subst Typed (sym (of .is))
-      (typed-as (of .does phy .registers) (of .does phy .link) _ (of .captured) (of .does phy) after (after .registers)
-      (follow-keeps TypedFollower (omega arith) (omega arith, omega arith) (λ ones. omega arith) more (enough phy) level (phy .follower) (t .follower))
-      (of .small t))
+      record {
+        own = after .own;
+        words = line-words _ _ (of .does phy) (after .words);
+        follower = follow-keeps TypedFollower (omega arith) (omega arith, omega arith) (λ ones. omega arith) more (enough phy) level (phy .follower) (t .follower);
+        captured = of .small t;
+      }
     where
       shifted : (bits : ℕ) (l : Bool) → oneMore bits l < 2 ^ 32
       shifted bits true = omega arith
@@ -186,7 +169,6 @@ module _ (level : Bool) (phy : Phy) where
       more l seen bits p h = (omega arith, shifted bits l)
 
 -- A fresh PHY
-pub fresh-typed : (address implemented : ℕ) (defaults masks : List ℕ) → address < 2 ^ 8 → implemented < 2 ^ 32
-    → Words defaults → Words masks → Typed (fresh address implemented defaults masks)
-fresh-typed address implemented defaults masks a i d m =
-    record { address = a; implemented = i; defaults = d; masks = m; registers = d; follower = omega arith; captured = omega arith }
+pub fresh-typed : (own : Own) (defaults masks : List ℕ) → TypedOwn own → Words 32 defaults → Words 32 masks → Typed (fresh own defaults masks)
+fresh-typed own defaults masks o d m =
+    record { own = o; words = record { defaults = d; masks = m; registers = d }; follower = omega arith; captured = omega arith }

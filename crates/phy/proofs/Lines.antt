@@ -12,8 +12,8 @@ use Rattle.wire.specs.Follower.{oneMore, follow, headerSeen, answering}
 use Rattle.wire.proofs.Followers.{goes-on}
 use Rattle.phy.specs.declared.Phy.{Phy}
 use Rattle.phy.specs.Fields.{withLine, withFollower}
-use Rattle.phy.specs.Registers.{implements}
-use Rattle.phy.specs.Clock.{enough, answers, word, afterHeader, afterFrame, drivesIn, drives, atHeader, acts, clock}
+use Rattle.phy.specs.Own.{answers, drivesIn}
+use Rattle.phy.specs.Clock.{enough, word, afterHeader, afterFrame, drives, atHeader, acts, clock}
 use Rattle.phy.proofs.Headers.{afterHeader-silent}
 use Rattle.phy.proofs.Effects.{afterHeader-effect, afterFrame-effect}
 
@@ -23,8 +23,8 @@ unfolding drivesIn
 drives-line-hunting ones captured phy = refl
 
 pub drives-line : (seen bits captured : ℕ) (phy : Phy)
-    → drives (withLine (Inside seen bits) captured phy) ≡ cond (answers (headerSeen seen bits) phy) (answering seen captured) Released
-unfolding drivesIn answers implements
+    → drives (withLine (Inside seen bits) captured phy) ≡ cond (answers (headerSeen seen bits) (phy .own)) (answering seen captured) Released
+unfolding drivesIn
 drives-line seen bits captured phy = refl
 
 -- a clock touches registers and link only at the 14th and the 32nd bit of a frame
@@ -48,11 +48,11 @@ module _ (level : Bool) (bits captured : ℕ) (phy : Phy) where
 
   at-header : (header : Header)
       → withFollower next (atHeader header inFrame)
-      ≡ withLine next (cond (answers header phy) (word header phy) captured) (afterHeader header phy)
-  unfolding atHeader answers implements
-  at-header header = go (answers header phy) refl
+      ≡ withLine next (cond (answers header (phy .own)) (word header phy) captured) (afterHeader header phy)
+  unfolding atHeader
+  at-header header = go (answers header (phy .own)) refl
     where
-      go : (t : Bool) → answers header phy ≡ t
+      go : (t : Bool) → answers header (phy .own) ≡ t
           → withFollower next (cond t (withLine (afterHeader header inFrame .follower) (word header phy) (afterHeader header inFrame)) inFrame)
           ≡ withLine next (cond t (word header phy) captured) (afterHeader header phy)
       go true own = ap (withLine next (word header phy)) (afterHeader-effect header .blind (Inside 13 bits) captured phy)
@@ -60,7 +60,7 @@ module _ (level : Bool) (bits captured : ℕ) (phy : Phy) where
 
   pub clock-header : clock level inFrame
       ≡ withLine next
-      (cond (answers (headerSeen 14 (oneMore bits level)) phy) (word (headerSeen 14 (oneMore bits level)) phy) captured)
+      (cond (answers (headerSeen 14 (oneMore bits level)) (phy .own)) (word (headerSeen 14 (oneMore bits level)) phy) captured)
       (afterHeader (headerSeen 14 (oneMore bits level)) phy)
   unfolding clock acts
   clock-header =

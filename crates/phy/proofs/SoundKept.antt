@@ -3,7 +3,6 @@ use Prim.Native.Nat.{ℕ, _-_, _/_, _^_, _<_}
 use mathlib.Core.Path.{_≡_, refl, sym, ap, subst, _∙_}
 use mathlib.Core.Logic.{inl, inr}
 use mathlib.Core.Bool.{Bool, true, false, not, _&&_, _||_, cond, or-true, true≢false}
-use mathlib.Core.List.{List}
 use native.Mathlib.Omega.{arith}
 use native.Mathlib.Nat.{div-eq-of-lt, div-lt-iff-lt-mul, one-mul}
 use native.Mathlib.Decide.{ℕ-discrete}
@@ -15,11 +14,12 @@ use Rattle.wire.specs.declared.Follower.the-variants.{Hunting, Inside}
 use Rattle.wire.specs.declared.Header.{Header}
 use Rattle.wire.specs.Follower.{headerSeen}
 use Rattle.phy.specs.declared.Phy.{Phy}
-use Rattle.phy.specs.Fields.{defaultOf, maskOf, withBank, withLine}
-use Rattle.phy.specs.Registers.{implements, inReset, writeOrdinary, readStatus, afterRead, writeBy, afterWrite}
+use Rattle.phy.specs.Fields.{defaultOf, maskOf, withLine}
+use Rattle.phy.specs.Own.{implements, answers, stores}
+use Rattle.phy.specs.Registers.{inReset, writeOrdinary, readStatus, afterRead, writeBy, afterWrite}
 use Rattle.phy.specs.Control.{writeControl}
 use Rattle.phy.specs.Events.{event}
-use Rattle.phy.specs.Clock.{enough, answers, stores, afterHeader, afterFrame, clock}
+use Rattle.phy.specs.Clock.{enough, afterHeader, afterFrame, clock}
 use Rattle.phy.specs.Typed.{Typed}
 use Rattle.phy.specs.Record.{registerSetRight, unimplementedZero, masksZero, statusClear, extendedClear, someAbility, controlDerived, wordsRight, defaultsRight}
 use Rattle.phy.specs.Sound.{registersStand, othersAtDefault, followerSound, firstBit, inOwnRead, capturedSound, phySound}
@@ -33,15 +33,15 @@ use Rattle.phy.proofs.Frames.{Started, follow-started, CapturedOnly, ow
 use Rattle.phy.proofs.Headers.{foreign-unanswered}
 use Rattle.phy.proofs.Foreign.{Foreign, not-ours}
 use Rattle.phy.proofs.Effects.{Effect, event-effect, afterRead-effect, afterHeader-effect, afterWrite-effect, afterFrame-effect}
-use Rattle.phy.proofs.Keeping.{keeps-typed, clock-record, clock-typed}
+use Rattle.phy.proofs.Keeping.{keeps-own, keeps-follower, keeps-captured, keeps-typed, clock-record, clock-typed}
 use Rattle.phy.proofs.Banks.{event-bank, read-bank, ordinary-bank}
 use Rattle.phy.proofs.ControlBanks.{control-bank}
 
 -- a PHY whose record passes checks 5 and 6, and which is sound
 pub record SoundPhy (p : Phy) : Type 0 where
   pub typed : Typed p
-  pub set-right : registerSetRight (p .implemented) (p .defaults) ≡ true
-  pub defaults-right : defaultsRight (p .implemented) (p .defaults) (p .masks) ≡ true
+  pub set-right : registerSetRight (p .own .implemented) (p .defaults) ≡ true
+  pub defaults-right : defaultsRight (p .own .implemented) (p .defaults) (p .masks) ≡ true
   pub sound : phySound p ≡ true
 
 -- Registers and link
@@ -54,7 +54,7 @@ module _ (p : Phy) (s : SoundPhy p) where
   unfolding defaultsRight
   right =
       let words = wordsRight (defaultOf 0 p) (defaultOf 1 p) (defaultOf 15 p) in
-      both (masksZero (p .masks)) words (both (unimplementedZero (p .implemented) (p .defaults) (p .masks)) (masksZero (p .masks) && words) (s .defaults-right) .1)
+      both (masksZero (p .masks)) words (both (unimplementedZero (p .own .implemented) (p .defaults) (p .masks)) (masksZero (p .masks) && words) (s .defaults-right) .1)
 
   -- "masks of (..) 15 zero"
   fixed-mask : maskOf 15 p ≡ 0
@@ -77,12 +77,12 @@ module _ (p : Phy) (s : SoundPhy p) where
   after-read r = go (eqb r 1)
     where
       go : (t : Bool) → Bank (cond t (readStatus p) p)
-      go true = read-bank p (s .typed .registers) bank status-clear
+      go true = read-bank p (s .typed .words .registers) bank status-clear
       go false = bank
 
   after-header : (header : Header) → Bank (afterHeader header p)
   unfolding afterHeader
-  after-header header = go (answers header p)
+  after-header header = go (answers header (p .own))
     where
       go : (t : Bool) → Bank (cond t (afterRead (header .register) p) p)
       go true = after-read (header .register)
@@ -93,31 +93,25 @@ module _ (p : Phy) (s : SoundPhy p) where
   written r word below out = go (eqb r 0) (eqb r 1) refl refl
     where
       go : (a b : Bool) → eqb r 0 ≡ a → eqb r 1 ≡ b → Bank (cond a (writeControl word p) (cond b p (writeOrdinary r word p)))
-      go true b e0 e1 = control-bank word p (s .typed .defaults) (s .typed .registers) (right .1) bank
+      go true b e0 e1 = control-bank word p (s .typed .words .defaults) (s .typed .words .registers) (right .1) bank
       go false true e0 e1 = bank
-      go false false e0 e1 = ordinary-bank p (s .typed .registers) bank r word (eqb-false r 0 e0) (eqb-false r 1 e1) below fixed-mask out
+      go false false e0 e1 = ordinary-bank p (s .typed .words .registers) bank r word (eqb-false r 0 e0) (eqb-false r 1 e1) below fixed-mask out
 
   after-write : (r word : ℕ) → Bank (afterWrite r word p)
   unfolding afterWrite
-  after-write r word = go (implements r p && not (inReset p)) refl
+  after-write r word = go (implements r (p .own) && not (inReset p)) refl
     where
-      go : (t : Bool) → (implements r p && not (inReset p)) ≡ t → Bank (cond t (writeBy r word p) p)
-      go true e = written r word (implemented-below r p (not (inReset p)) e) (not-true (inReset p) (both (implements r p) (not (inReset p)) e .1))
+      go : (t : Bool) → (implements r (p .own) && not (inReset p)) ≡ t → Bank (cond t (writeBy r word p) p)
+      go true e = written r word (implemented-below r (p .own) (not (inReset p)) e) (not-true (inReset p) (both (implements r (p .own)) (not (inReset p)) e .1))
       go false e = bank
 
   after-frame : (header : Header) (word : ℕ) → Bank (afterFrame header word p)
   unfolding afterFrame
-  after-frame header word = go (stores header p)
+  after-frame header word = go (stores header (p .own))
     where
       go : (t : Bool) → Bank (cond t (afterWrite (header .register) word p) p)
       go true = after-write (header .register) word
       go false = bank
-
--- whom a PHY answers does not go by registers and link
-inOwnRead-same : (registers : List ℕ) (link : Bool) (p : Phy) (f : Follower) → inOwnRead (withBank registers link p) f ≡ inOwnRead p f
-unfolding inOwnRead answers implements
-inOwnRead-same registers link p (Hunting ones) = refl
-inOwnRead-same registers link p (Inside seen bits) = refl
 
 -- an effect that leaves registers and link sound leaves the PHY sound
 module _ {f : Phy → Phy} (effect : Effect f) (p : Phy) (s : SoundPhy p) where
@@ -125,15 +119,13 @@ module _ {f : Phy → Phy} (effect : Effect f) (p : Phy) (s : SoundPhy p) where
   kept-by b =
       record {
         typed = keeps-typed effect p (s .typed);
-        set-right = ap (λ q. registerSetRight (q .implemented) (q .defaults)) (effect .bank p) ∙ s .set-right;
-        defaults-right = ap (λ q. defaultsRight (q .implemented) (q .defaults) (q .masks)) (effect .bank p) ∙ s .defaults-right;
+        set-right = ap (λ r. registerSetRight (r .own .implemented) (r .defaults)) (effect .leaves p) ∙ s .set-right;
+        defaults-right = ap (λ r. defaultsRight (r .own .implemented) (r .defaults) (r .masks)) (effect .leaves p) ∙ s .defaults-right;
         sound = clauses-sound (f p)
             record {
               bank = b;
-              follower-sound = ap (λ q. followerSound (q .follower)) (effect .bank p) ∙ now .follower-sound;
-              captured-sound = ap capturedSound (effect .bank p)
-                  ∙ ap (λ (t : Bool). t || eqb (p .captured) 0) (inOwnRead-same (f p .registers) (f p .link) p (p .follower))
-                  ∙ now .captured-sound;
+              follower-sound = ap followerSound (keeps-follower effect p) ∙ now .follower-sound;
+              captured-sound = rw (keeps-own effect p, keeps-follower effect p, keeps-captured effect p) (now .captured-sound);
             };
       }
     where
@@ -141,7 +133,7 @@ module _ {f : Phy → Phy} (effect : Effect f) (p : Phy) (s : SoundPhy p) where
       now = sound-clauses p (s .sound)
 
 pub event-sound : (code : ℕ) (p : Phy) → SoundPhy p → SoundPhy (event code p)
-event-sound code p s = kept-by (event-effect code) p s (event-bank p (s .typed .registers) (bank p s) code)
+event-sound code p s = kept-by (event-effect code) p s (event-bank p (s .typed .words .registers) (bank p s) code)
 
 pub afterRead-sound : (r : ℕ) (p : Phy) → SoundPhy p → SoundPhy (afterRead r p)
 afterRead-sound r p s = kept-by (afterRead-effect r) p s (after-read p s r)
@@ -175,16 +167,16 @@ started-sound (Inside seen bits) h = rw (le-leb 1 seen (h .0), le-leb seen 31 (h
 -- The captured word: "only in an own read of an implemented register from its 14th bit on, else 0"
 sound-captured : (p : Phy) → capturedSound p ≡ true → CapturedOnly p
 unfolding inOwnRead
-sound-captured p h = go (inOwnRead p (p .follower)) refl
+sound-captured p h = go (inOwnRead (p .own) (p .follower)) refl
   where
-    reads : (f : Follower) → p .follower ≡ f → inOwnRead p f ≡ true → OwnRead 14 p
+    reads : (f : Follower) → p .follower ≡ f → inOwnRead (p .own) f ≡ true → OwnRead 14 p
     reads (Hunting ones) now e = absurd (let z : _≡_ {A = ℕ} 0 1 = cc in omega arith)
     reads (Inside seen bits) now e =
-        let least = both (leb 14 seen) (leb seen 31 && answers (headerSeen seen bits) p) e in
-        let most = both (leb seen 31) (answers (headerSeen seen bits) p) (least .1) in
+        let least = both (leb 14 seen) (leb seen 31 && answers (headerSeen seen bits) (p .own)) e in
+        let most = both (leb seen 31) (answers (headerSeen seen bits) (p .own)) (least .1) in
         record { seen = seen; bits = bits; now = now; own = most .1; from = leb-true 14 seen (least .0); upto = leb-true seen 31 (most .0) }
 
-    go : (t : Bool) → inOwnRead p (p .follower) ≡ t → CapturedOnly p
+    go : (t : Bool) → inOwnRead (p .own) (p .follower) ≡ t → CapturedOnly p
     go true e = inr (reads (p .follower) refl e)
     go false e = inl (eqb-true (p .captured) 0 (rw e at h))
 
@@ -196,14 +188,14 @@ foreign-empty p seen bits sound now f = go (sound-captured p (sound-clauses p so
     go (inl none) = none
     go (inr read) =
         let own = own-here p seen bits now read in
-        absurd (true≢false (sym (own .1) ∙ foreign-unanswered (headerSeen seen bits) p (not-ours seen bits (own .0) (f .zeros))))
+        absurd (true≢false (sym (own .1) ∙ foreign-unanswered (headerSeen seen bits) (p .own) (not-ours seen bits (own .0) (f .zeros))))
 
 captured-sound : (p : Phy) → CapturedOnly p → capturedSound p ≡ true
 unfolding inOwnRead
-captured-sound p (inl none) = ap (λ (w : ℕ). inOwnRead p (p .follower) || eqb w 0) none ∙ or-true (inOwnRead p (p .follower))
-captured-sound p (inr read) = ap (λ (t : Bool). t || eqb (p .captured) 0) (ap (inOwnRead p) (read .now) ∙ reads)
+captured-sound p (inl none) = ap (λ (w : ℕ). inOwnRead (p .own) (p .follower) || eqb w 0) none ∙ or-true (inOwnRead (p .own) (p .follower))
+captured-sound p (inr read) = ap (λ (t : Bool). t || eqb (p .captured) 0) (ap (inOwnRead (p .own)) (read .now) ∙ reads)
   where
-    reads : inOwnRead p (Inside (read .seen) (read .bits)) ≡ true
+    reads : inOwnRead (p .own) (Inside (read .seen) (read .bits)) ≡ true
     reads = rw (le-leb 14 (read .seen) (read .from), le-leb (read .seen) 31 (read .upto), read .own)
 
 -- registers and link do not go by follower and captured word
@@ -243,8 +235,8 @@ module _ (level : Bool) (p : Phy) (s : SoundPhy p) where
   clock-sound =
       record {
         typed = clock-typed level p (s .typed);
-        set-right = ap (λ r. registerSetRight (r .1) (r .2)) (clock-record level p) ∙ s .set-right;
-        defaults-right = ap (λ r. defaultsRight (r .1) (r .2) (r .3)) (clock-record level p) ∙ s .defaults-right;
+        set-right = ap (λ r. registerSetRight (r .own .implemented) (r .defaults)) (clock-record level p) ∙ s .set-right;
+        defaults-right = ap (λ r. defaultsRight (r .own .implemented) (r .defaults) (r .masks)) (clock-record level p) ∙ s .defaults-right;
         sound = clauses-sound (clock level p)
             record {
               bank = clock-bank;

@@ -1,13 +1,13 @@
--- Rust's types give `Typed`: what the logic knows of a PHY value that a function takes.
+-- Rust's types give `Typed`: what the logic knows of a PHY value that a function takes. Each fact is found by the field that it speaks of, so a field more changes none of these.
 use Prim.Native.Nat.{ℕ, zero, suc, _^_, _<_}
-use mathlib.Core.Path.{_≡_, sym, subst, _∙_}
-use mathlib.Core.List.{List, [], _∷_, map, map-id}
+use mathlib.Core.Path.{_≡_, sym, _∙_}
+use mathlib.Core.List.{List, [], _∷_, map}
 use native.Mathlib.Omega.{arith}
+use borrow.Author.Needs.{needs}
 use lib.ListN.{length, getD, length-map}
 use mir.Syntax.{w16}
-use mir.Val.{Val}
+use mir.Val.{Val, Fits}
 use denote.Laws.{Is}
-use denote.Plain.{UInt}
 use denote.Array.{each, Array}
 use denote.Shadow.{shadow}
 use denote.Struct.Declared.{row}
@@ -15,36 +15,28 @@ use Rattle.wire.proofs.Follower.{the-field as follower-field}
 use Rattle.wire.specs.declared.Follower.{Follower}
 use Rattle.wire.specs.declared.Follower.the-variants.{Hunting, Inside}
 use Rattle.phy.specs.declared.Phy.{Phy}
-use Rattle.phy.specs.Typed.{Words, TypedFollower, Typed}
+use Rattle.phy.specs.Typed.{TypedFollower, Typed}
 use Rattle.phy.proofs.Phy.{the-type, the-field as phy-field}
 
--- each element of an array of 16-bit words is one
-each-small : (xs : List ℕ) (us : List Val) → shadow (each ℕ (UInt w16 .own) xs us) → (r : ℕ) → getD xs r 0 < 2 ^ 16
-each-small [] us e r = omega arith
-each-small (x ∷ xs) [] e r = absurd e
-each-small (x ∷ xs) (u ∷ us) e zero = e .0 .1
-each-small (x ∷ xs) (u ∷ us) e (suc r) = each-small xs us (e .1) r
-
-words : (xs : List ℕ) (vs : List Val) → Is (Array (UInt w16) 32) (map (λ v. v) xs) vs → Words xs
-words xs vs good =
-    subst Words (map-id xs) record { long = good .1 .0 .1; small = each-small (map (λ v. v) xs) (good .0) (good .1 .1) }
+below : {word : ℕ} → Fits w16 word → word < 2 ^ 16
+below fits = fits .fits
 
 followers : (f : Follower) (vs : List Val) → Is (follower-field .row) (follower-field .into f) vs → TypedFollower f
-followers (Hunting ones) vs good = good .1 .1 .1 .1 .0 .1
-followers (Inside seen bits) vs good = (good .1 .1 .1 .1 .0 .1, good .1 .1 .1 .1 .1 .0 .1)
+followers (Hunting ones) vs good = search needs
+followers (Inside seen bits) vs good = (search needs, search needs)
 
 -- a parameter `self` has `typed-value self _ (c .good .0)`, and a PHY in an array what `denote.Array.each` says of it
 pub typed-value : (phy : Phy) (vs : List Val) → Is (row the-type) phy vs → Typed phy
 typed-value phy vs good =
-    let fields = good .1 .1 in
     record {
-      address = fields .0 .1;
-      implemented = fields .1 .0 .1;
-      defaults = words (phy .defaults) _ (fields .1 .1 .0);
-      masks = words (phy .masks) _ (fields .1 .1 .1 .0);
-      registers = words (phy .registers) _ (fields .1 .1 .1 .1 .0);
-      follower = followers (phy .follower) _ (fields .1 .1 .1 .1 .1 .1 .0);
-      captured = fields .1 .1 .1 .1 .1 .1 .1 .0 .1;
+      own = record { address = search needs; implemented = search needs };
+      words = record {
+        defaults = record { long = search needs; small = λ r. below (search needs) };
+        masks = record { long = search needs; small = λ r. below (search needs) };
+        registers = record { long = search needs; small = λ r. below (search needs) };
+      };
+      follower = search followers;
+      captured = search needs;
     }
 
 -- a field of 32 PHYs, as a board has one

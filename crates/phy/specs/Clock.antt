@@ -1,29 +1,28 @@
 -- Document 01, "The PHY's follower": what a PHY does in a clock, and how it is a party of the wire and of the plain machine.
 use Prim.Native.Nat.{ℕ, _-_, _%_, _^_}
-use mathlib.Core.Bool.{Bool, false, _&&_, cond}
+use mathlib.Core.Bool.{Bool, false, cond}
 use mathlib.Core.List.{List}
 use lib.Dec.{eqb}
 use Rattle.frame.specs.Frame.{headerBits, frameBits}
-use Rattle.frame.specs.List.{read, write}
 use Rattle.wire.specs.declared.Drive.{Drive}
-use Rattle.wire.specs.declared.Drive.the-variants.{Released}
 use Rattle.wire.specs.declared.Follower.{Follower}
 use Rattle.wire.specs.declared.Follower.the-variants.{Hunting, Inside}
 use Rattle.wire.specs.declared.Header.{Header}
-use Rattle.wire.specs.Follower.{oneMore, follow, ourStart, headerSeen, answering}
+use Rattle.wire.specs.Follower.{oneMore, follow, headerSeen}
 use Rattle.wire.specs.Wire.{Party}
 use Rattle.wire.specs.Machines.{Core}
+use Rattle.phy.specs.declared.own.Own.{Own}
 use Rattle.phy.specs.declared.Phy.{Phy}
 use Rattle.phy.specs.Abilities.{one}
+use Rattle.phy.specs.Own.{answers, stores, drivesIn}
 use Rattle.phy.specs.Fields.{registerOf, withFollower, withCaptured}
-use Rattle.phy.specs.Registers.{implements, afterRead, afterWrite}
+use Rattle.phy.specs.Registers.{afterRead, afterWrite}
 
 -- "A load gives hunting, 0 ones, link down, defaults."
-abbrev pub fresh : ℕ → ℕ → List ℕ → List ℕ → Phy
-fresh address implemented defaults masks =
+abbrev pub fresh : Own → List ℕ → List ℕ → Phy
+fresh own defaults masks =
     record {
-      address = address;
-      implemented = implemented;
+      own = own;
       defaults = defaults;
       masks = masks;
       registers = defaults;
@@ -36,46 +35,25 @@ fresh address implemented defaults masks =
 unfoldable pub enough : Phy → ℕ
 enough phy = cond (one 6 (registerOf 1 phy)) 1 32
 
--- which addresses a PHY takes frames to
-abbrev pub takes : ℕ → Phy → Bool
-takes address phy = eqb address (phy .address)
-
--- whether a header is an own one with this op. Document 02, E2: "after a start of 00 the follower passes over the other 30 bits, driving and storing nothing"
-abbrev pub isOwn : ℕ → Header → Phy → Bool
-isOwn op header phy = eqb (header .start) ourStart && (eqb (header .op) op && takes (header .address) phy)
-
--- "Own read of an implemented register"
-unfoldable pub answers : Header → Phy → Bool
-answers header phy = isOwn read header phy && implements (header .register) phy
-
--- "Own write"
-unfoldable pub stores : Header → Phy → Bool
-stores header phy = isOwn write header phy
-
 -- the word that a read returns
 abbrev pub word : Header → Phy → ℕ
 word header phy = registerOf (header .register) phy
 
 -- the effect of a header, in the clock of the 14th frame bit
 unfoldable pub afterHeader : Header → Phy → Phy
-afterHeader header phy = cond (answers header phy) (afterRead (header .register) phy) phy
+afterHeader header phy = cond (answers header (phy .own)) (afterRead (header .register) phy) phy
 
 -- the effect of a frame with this data, in the clock of its 32nd bit
 unfoldable pub afterFrame : Header → ℕ → Phy → Phy
-afterFrame header frameData phy = cond (stores header phy) (afterWrite (header .register) frameData phy) phy
+afterFrame header frameData phy = cond (stores header (phy .own)) (afterWrite (header .register) frameData phy) phy
 
 -- what a PHY drives in the next clock
-unfoldable pub drivesIn : Follower → Phy → Drive
-drivesIn (Hunting ones) phy = Released
-drivesIn (Inside seen bits) phy =
-    cond (answers (headerSeen seen bits) phy) (answering seen (phy .captured)) Released
-
 abbrev pub drives : Phy → Drive
-drives phy = drivesIn (phy .follower) phy
+drives phy = drivesIn (phy .follower) (phy .captured) (phy .own)
 
 -- "the word is captured at the 14th frame bit, with the read's effect in that same clock"
 unfoldable pub atHeader : Header → Phy → Phy
-atHeader header phy = cond (answers header phy) (withCaptured (word header phy) (afterHeader header phy)) phy
+atHeader header phy = cond (answers header (phy .own)) (withCaptured (word header phy) (afterHeader header phy)) phy
 
 -- "Own write: stored at the 32nd bit"; a read is over
 abbrev pub atFrame : Header → ℕ → Phy → Phy
@@ -103,7 +81,7 @@ phyParty happens = record { drives = drives; samples = clock; happens = happens 
 abbrev pub phyCore : (ℕ → Phy → Phy) → Core Phy
 phyCore happens =
     record {
-      answers = answers;
+      answers = λ header phy. answers header (phy .own);
       word = word;
       afterHeader = afterHeader;
       afterFrame = afterFrame;

@@ -2,17 +2,16 @@
 use Prim.Native.Nat.{ℕ}
 use mathlib.Core.Bool.{Bool, true, false, _||_, cond}
 use mathlib.Core.List.{List, [], _∷_}
-use lib.ListN.{set}
 use lib.Dec.{eqb}
 use Rattle.verdict.specs.Bits.{bit, valueOf}
 use Rattle.phy.specs.declared.Phy.{Phy}
 use Rattle.phy.specs.Abilities.{one, able10, able100, able1000, ableFull, ableHalf}
-use Rattle.phy.specs.Words.{setBit, clearBit}
-use Rattle.phy.specs.Fields.{registerOf, defaultOf, withBank}
+use Rattle.phy.specs.Words.{clearBit}
+use Rattle.phy.specs.Fields.{registerOf, withRegisters, withRegister, sets, withLink}
 
 -- "Bit 15 one: all registers to default, link down, 0.15 one; the rest of the word is dropped."
 unfoldable pub reset : Phy → Phy
-reset phy = withBank (set (phy .defaults) 0 (setBit 15 (defaultOf 0 phy))) false phy
+reset phy = sets 0 15 (withLink false (withRegisters (phy .defaults) phy))
 
 -- "Bits (6,13): 00 is 10, 01 is 100, 10 is 1000." Whether the speed that two bits ask for is able; that of 11 never is
 abbrev pub speedAble : ℕ → ℕ → Bool → Bool → Bool
@@ -70,4 +69,4 @@ writeControl word phy =
     let status = registerOf 1 phy in
     let control = newControl status (registerOf 15 phy) (registerOf 0 phy) word in
     cond (one 15 word) (reset phy)
-    (withBank (set (set (phy .registers) 0 control) 1 (newStatus status word)) (phy .link) phy)
+    (withRegister 1 (newStatus status word) (withRegister 0 control phy))

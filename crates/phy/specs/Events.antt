@@ -4,8 +4,7 @@ use mathlib.Core.Bool.{true, false, not, _&&_, cond}
 use lib.Dec.{eqb}
 use Rattle.phy.specs.declared.Phy.{Phy}
 use Rattle.phy.specs.Abilities.{one}
-use Rattle.phy.specs.Words.{setBit, clearBit}
-use Rattle.phy.specs.Fields.{registerOf, withRegister, withLink}
+use Rattle.phy.specs.Fields.{registerOf, sets, clears, withLink}
 use Rattle.phy.specs.Registers.{inReset}
 
 -- the events by number
@@ -29,13 +28,6 @@ restartDone = 6
 
 abbrev pub resetDone : ℕ
 resetDone = 7
-
--- a bit of a register set or cleared
-abbrev pub sets : ℕ → ℕ → Phy → Phy
-sets r i phy = withRegister r (setBit i (registerOf r phy)) phy
-
-abbrev pub clears : ℕ → ℕ → Phy → Phy
-clears r i phy = withRegister r (clearBit i (registerOf r phy)) phy
 
 -- "5 sets 1.5 if 0.12 is one and 0.9 zero"
 unfoldable pub completes : Phy → Phy

@@ -1,5 +1,6 @@
 pub mod Abilities
 pub mod Words
+pub mod Own
 pub mod Fields
 pub mod Control
 pub mod Registers

@@ -1,17 +1,14 @@
 -- Document 01, "Registers": the effects of a read and of a write.
 use Prim.Native.Nat.{ℕ}
 use mathlib.Core.Bool.{Bool, true, false, not, _&&_, cond}
-use lib.Dec.{eqb, ltb}
+use lib.Dec.{eqb}
 use Rattle.verdict.specs.Bits.{bit}
 use Rattle.phy.specs.declared.Phy.{Phy}
 use Rattle.phy.specs.Abilities.{one}
 use Rattle.phy.specs.Words.{wordBits, wordOf, setBit, clearBit}
+use Rattle.phy.specs.Own.{implements}
 use Rattle.phy.specs.Fields.{registerOf, maskOf, withRegister}
 use Rattle.phy.specs.Control.{writeControl}
-
--- "registers 0 to 31": bit r of the mask for register r
-unfoldable pub implements : ℕ → Phy → Bool
-implements r phy = ltb r 32 && one r (phy .implemented)
 
 -- in reset while 0.15 is one
 unfoldable pub inReset : Phy → Bool
@@ -42,4 +39,4 @@ writeBy r word phy = cond (eqb r 0) (writeControl word phy) (cond (eqb r 1) phy 
 
 -- the effect of a write: "not implemented: ignored", "In reset all writes are ignored"
 unfoldable pub afterWrite : ℕ → ℕ → Phy → Phy
-afterWrite r word phy = cond (implements r phy && not (inReset phy)) (writeBy r word phy) phy
+afterWrite r word phy = cond (implements r (phy .own) && not (inReset phy)) (writeBy r word phy) phy

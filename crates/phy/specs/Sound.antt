@@ -9,11 +9,13 @@ use Rattle.frame.specs.Frame.{headerBits, frameBits}
 use Rattle.wire.specs.declared.Follower.{Follower}
 use Rattle.wire.specs.declared.Follower.the-variants.{Hunting, Inside}
 use Rattle.wire.specs.Follower.{headerSeen}
+use Rattle.phy.specs.declared.own.Own.{Own}
 use Rattle.phy.specs.declared.Phy.{Phy}
 use Rattle.phy.specs.Abilities.{one, ableFull, ableHalf}
+use Rattle.phy.specs.Own.{answers}
 use Rattle.phy.specs.Fields.{registerOf, defaultOf, maskOf}
 use Rattle.phy.specs.Control.{speedAble}
-use Rattle.phy.specs.Clock.{fresh, answers}
+use Rattle.phy.specs.Clock.{fresh}
 use Rattle.phy.specs.Record.{every, registerCount, word}
 
 -- the words that the clauses name
@@ -110,13 +112,13 @@ followerSound (Hunting ones) = leb ones 32
 followerSound (Inside seen bits) = leb 1 seen && (leb seen (frameBits - 1) && eqb (firstBit seen bits) 0)
 
 -- "in an own read of an implemented register from its 14th bit on"
-unfoldable pub inOwnRead : Phy → Follower → Bool
-inOwnRead p (Hunting ones) = false
-inOwnRead p (Inside seen bits) = leb headerBits seen && (leb seen (frameBits - 1) && answers (headerSeen seen bits) p)
+unfoldable pub inOwnRead : Own → Follower → Bool
+inOwnRead own (Hunting ones) = false
+inOwnRead own (Inside seen bits) = leb headerBits seen && (leb seen (frameBits - 1) && answers (headerSeen seen bits) own)
 
 -- "a captured word, of any value, only in an own read (..), else 0"
 abbrev pub capturedSound : Phy → Bool
-capturedSound p = inOwnRead p (p .follower) || eqb (p .captured) 0
+capturedSound p = inOwnRead (p .own) (p .follower) || eqb (p .captured) 0
 
 -- all that "A sound board" asks of one PHY beside its record
 unfoldable pub phySound : Phy → Bool
@@ -137,15 +139,18 @@ huntsFresh (Inside seen bits) = false
 
 unfoldable pub isBlank : Phy → Bool
 isBlank p =
-    eqb (p .address) 0
-    && (eqb (p .implemented) 0
+    eqb (p .own .address) 0
+    && (eqb (p .own .implemented) 0
     && (zeros (p .defaults)
     && (zeros (p .masks)
     && (zeros (p .registers) && (not (p .link) && (huntsFresh (p .follower) && eqb (p .captured) 0))))))
 
+abbrev pub nobody : Own
+nobody = record { address = 0; implemented = 0 }
+
 unfoldable pub blank : Phy
-blank = fresh 0 0 (replicate 32 0) (replicate 32 0)
+blank = fresh nobody (replicate 32 0) (replicate 32 0)
 
 -- what a list of PHYs reads past its end, where no PHY stands
 abbrev pub nowhere : Phy
-nowhere = fresh 0 0 [] []
+nowhere = fresh nobody [] []

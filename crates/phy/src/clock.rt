@@ -1,13 +1,11 @@
 // A PHY in a clock: what it drives, and what it is after it sampled the level.
 ghost use mathlib.Core.Path.{_≡_};
-ghost use Prim.Native.Nat.{_≤_};
-ghost use Rattle.wire.specs.Follower.{answering};
-ghost use Rattle.phy.specs.Fields.{withFollower, withCaptured};
-ghost use Rattle.phy.specs.Clock.{fresh, enough, takes, isOwn, answers, stores, afterHeader, afterFrame, drives, atHeader, acts, clock};
+ghost use Rattle.phy.specs.Fields.{withLine};
+ghost use Rattle.phy.specs.Clock.{fresh, enough, afterHeader, afterFrame, drives, atHeader, acts, clock};
 use crate::Phy;
+use crate::own::Own;
 use crate::status::Status;
 use frame::Frame;
-use frame::Transaction;
 use wire::Drive;
 use wire::Follower;
 use wire::Header;
@@ -23,12 +21,11 @@ impl Phy {
     pub const BEFORE_ANSWER: u8 = (Frame::TURNAROUND_SECOND - Frame::START) as u8;
 
     // As a load leaves it: hunting with 0 ones, link down, registers at default.
-    pub fn fresh(address: u8, implemented: u32, defaults: [u16; 32], masks: [u16; 32]) -> Phy
-        ensures { λ r. ⌜ r ≡ fresh address implemented defaults masks ⌝ }
+    pub fn fresh(own: Own, defaults: [u16; 32], masks: [u16; 32]) -> Phy
+        ensures { λ r. ⌜ r ≡ fresh own defaults masks ⌝ }
     {
         Phy {
-            address: address,
-            implemented: implemented,
+            own: own,
             defaults: defaults,
             masks: masks,
             registers: defaults,
@@ -49,64 +46,30 @@ impl Phy {
         }
     }
 
-    // Whether frames to an address are for this PHY.
-    pub fn takes(self, address: u8) -> bool
-        ensures { λ r. ⌜ r ≡ takes address self ⌝ }
+    // The PHY with another line: what the wire knows of it apart, its follower and its captured word.
+    pub fn with_line(self, follower: Follower, captured: u16) -> Phy
+        ensures { λ r. ⌜ r ≡ withLine follower captured self ⌝ }
     {
-        address == self.address
-    }
-
-    // Whether a header is an own one with this op: of a frame of ours, to an address that this PHY takes.
-    pub fn is_own(self, op: u8, header: Header) -> bool
-        ensures { λ r. ⌜ r ≡ isOwn op header self ⌝ }
-    {
-        (header.start == Header::OUR_START) & ((header.op == op) & self.takes(header.address))
-    }
-
-    // Whether a header is an own read of an implemented register.
-    pub fn answers(self, header: Header) -> bool
-        ensures { λ r. ⌜ r ≡ answers header self ⌝ }
-    {
-        self.is_own(Transaction::READ, header) & self.implements(header.register)
-    }
-
-    // Whether a header is an own write.
-    pub fn stores(self, header: Header) -> bool
-        ensures { λ r. ⌜ r ≡ stores header self ⌝ }
-    {
-        self.is_own(Transaction::WRITE, header)
-    }
-
-    fn with_follower(self, follower: Follower) -> Phy
-        ensures { λ r. ⌜ r ≡ withFollower follower self ⌝ }
-    {
+        let own = self.own;
         let defaults = self.defaults;
         let masks = self.masks;
         let registers = self.registers;
         Phy {
-            address: self.address,
-            implemented: self.implemented,
+            own: own,
             defaults: defaults,
             masks: masks,
             registers: registers,
             link: self.link,
             follower: follower,
-            captured: self.captured,
+            captured: captured,
         }
-    }
-
-    fn with_captured(mut self, word: u16) -> Phy
-        ensures { λ r. ⌜ r ≡ withCaptured word self ⌝ }
-    {
-        self.captured = word;
-        self
     }
 
     // The effect of a header at the 14th frame bit, and of a frame at its 32nd.
     pub fn after_header(self, header: Header) -> Phy
         ensures { λ r. ⌜ r ≡ afterHeader header self ⌝ }
     {
-        if self.answers(header) {
+        if self.own.answers(header) {
             self.after_read(header.register)
         } else {
             self
@@ -116,22 +79,11 @@ impl Phy {
     pub fn after_frame(self, header: Header, word: u16) -> Phy
         ensures { λ r. ⌜ r ≡ afterFrame header word self ⌝ }
     {
-        if self.stores(header) {
+        if self.own.stores(header) {
             self.after_write(header.register, word)
         } else {
             self
         }
-    }
-
-    // What an answer drives after this many frame bits: 0 for bit 16, then the captured word.
-    fn answer_bit(seen: u8, captured: u16) -> Drive
-        requires { ⌜ (15 ≤ seen) × (seen ≤ 31) ⌝ }
-        ensures { λ r. ⌜ r ≡ answering seen captured ⌝ }
-    {
-        if seen == Phy::BEFORE_ANSWER {
-            return Drive::Driven(false);
-        }
-        Drive::Driven((captured >> (Follower::MOST_SEEN - seen)) % 2 == 1)
     }
 
     // What the PHY drives in the next clock.
@@ -139,31 +91,18 @@ impl Phy {
         ensures { λ r. ⌜ r ≡ drives self ⌝ }
     {
         let follower = self.follower;
-        let Follower::Inside(seen, bits) = follower else {
-            return Drive::Released;
-        };
-        if seen < Phy::BEFORE_ANSWER {
-            return Drive::Released;
-        }
-        if seen > Follower::MOST_SEEN {
-            return Drive::Released;
-        }
-        let header = Header::of(bits >> (seen - Phy::HEADER));
-        if self.answers(header) {
-            Phy::answer_bit(seen, self.captured)
-        } else {
-            Drive::Released
-        }
+        self.own.drives(follower, self.captured)
     }
 
     // The 14th frame bit: an own read captures its word and has its effect.
     fn at_header(self, header: Header) -> Phy
         ensures { λ r. ⌜ r ≡ atHeader header self ⌝ }
     {
-        if self.answers(header) {
-            let after = self.after_header(header);
+        if self.own.answers(header) {
+            let mut after = self.after_header(header);
             let held = self.word(header.register);
-            after.with_captured(held)
+            after.captured = held;
+            after
         } else {
             self
         }
@@ -178,7 +117,9 @@ impl Phy {
             Follower::MOST_SEEN => {
                 let header = Header::of(bits / Frame::TAIL_VALUES);
                 let word = (bits % Frame::DATA_VALUES) as u16;
-                self.after_frame(header, word).with_captured(0)
+                let mut after = self.after_frame(header, word);
+                after.captured = 0;
+                after
             }
             _ => self,
         }
@@ -191,9 +132,9 @@ impl Phy {
         let follower = self.follower;
         let next = follower.follow(self.enough(), level);
         let Follower::Inside(seen, bits) = follower else {
-            return self.with_follower(next);
+            return self.with_line(next, self.captured);
         };
         self = self.acts(seen, Follower::one_more(bits, level));
-        self.with_follower(next)
+        self.with_line(next, self.captured)
     }
 }

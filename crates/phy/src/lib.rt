@@ -3,19 +3,19 @@
 mod clock;
 mod control;
 mod events;
+mod own;
 mod registers;
 mod status;
 
 pub use control::Control;
 pub use events::Event;
+pub use own::Own;
 pub use status::ExtendedStatus;
 pub use status::Status;
 use wire::Follower;
 
 pub struct Phy {
-    pub address: u8,
-    // Bit r for register r.
-    pub implemented: u32,
+    pub own: Own,
     pub defaults: [u16; 32],
     // The bits of each register that a write stores.
     pub masks: [u16; 32],

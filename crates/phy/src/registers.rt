@@ -3,23 +3,13 @@ ghost use mathlib.Core.Path.{_≡_};
 ghost use Prim.Native.Nat.{_<_};
 ghost use Rattle.phy.specs.Fields.{registerOf};
 ghost use Rattle.phy.specs.Control.{reset, writeControl};
-ghost use Rattle.phy.specs.Registers.{implements, inReset, masked, writeOrdinary, afterRead, afterWrite};
+ghost use Rattle.phy.specs.Registers.{inReset, masked, writeOrdinary, afterRead, afterWrite};
 use crate::Phy;
 use crate::control::Control;
 use crate::status::Status;
 
 impl Phy {
     pub const REGISTERS: u8 = 32;
-
-    // Whether the PHY has a register.
-    pub fn implements(self, register: u8) -> bool
-        ensures { λ r. ⌜ r ≡ implements register self ⌝ }
-    {
-        if register >= Phy::REGISTERS {
-            return false;
-        }
-        (self.implemented >> register) % 2 == 1
-    }
 
     // What a read of a register returns.
     pub fn word(self, register: u8) -> u16
@@ -90,7 +80,7 @@ impl Phy {
     pub fn after_write(self, register: u8, word: u16) -> Phy
         ensures { λ r. ⌜ r ≡ afterWrite register word self ⌝ }
     {
-        if self.implements(register) & !self.in_reset() {
+        if self.own.implements(register) & !self.in_reset() {
             match register {
                 Control::REGISTER => self.write_control(word),
                 Status::REGISTER => self,

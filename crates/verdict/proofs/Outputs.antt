@@ -1,16 +1,20 @@
 -- Outputs: a promise fixes the answer and every byte, and a loop fills an output, or an array, from its start.
 use Prim.Native.Nat.{ℕ, suc, _+_, _*_, _-_, _≤_, _<_}
-use mathlib.Core.Path.{_≡_, sym, ap₂, _∙_}
+use mathlib.Core.Path.{_≡_, refl, sym, ap₂, _∙_}
+use mathlib.Core.Bool.{Bool, true, false}
 use mathlib.Core.List.{List, [], _∷_, _++_, append-assoc, append-nil}
 use native.Mathlib.Omega.{arith}
 use native.Mathlib.Nat.{suc-mul}
 use native.Mathlib.Numerals.{add-one}
 use borrow.Rule.Slice.PartMut.{putMid}
 use lib.ListN.{length, drop, set, length-append, length-drop}
+use lib.Dec.{ltb}
 use lib.Seq.{drop-cons, set-at, take-at, drop-at, drop-drop}
+use borrow.Author.Tests.{le-ltb, ltb-false}
 use Rattle.verdict.specs.declared.Verdict.{Verdict}
 use Rattle.verdict.specs.declared.Verdict.the-variants.{Done, Refused}
-use Rattle.verdict.specs.Output.{tabulate, join, written, Writes}
+use Rattle.verdict.specs.Refusal.{noRoom, _when_, refuse}
+use Rattle.verdict.specs.Output.{tabulate, join, written, roomFor, Writes}
 use Rattle.verdict.proofs.Lists.{length-tabulate, join-append, length-pieces}
 
 module _ {answer : Verdict} {result out : List ℕ} {r s : Verdict} {out₁ out₂ : List ℕ} where
@@ -25,6 +29,20 @@ refuses result out e p = record { verdict = p ∙ sym e; output = rw e }
 -- success writes the result
 pub succeeds : {answer : Verdict} {n : ℕ} {result out out′ : List ℕ} → answer ≡ Done n → out′ ≡ written result out → Writes answer result out (Done n) out′
 succeeds e p = record { verdict = sym e; output = rw e p }
+
+never : {A : Type 0} {n c k : ℕ} → Refused c k ≡ Done n → A
+never e = absurd (let z : _≡_ {A = ℕ} 0 1 = cc in omega arith)
+
+-- a room that is large enough, and one that was
+pub room-done : (out : List ℕ) (n : ℕ) → n ≤ length out → roomFor out n ≡ Done n
+room-done out n fits = rw (le-ltb (length out) n fits)
+
+pub room-fits : (out : List ℕ) (n m : ℕ) → roomFor out n ≡ Done m → n ≤ length out
+room-fits out n m e = go (ltb (length out) n) refl e
+  where
+    go : (b : Bool) → ltb (length out) n ≡ b → refuse (noRoom when b) 0 (Done n) ≡ Done m → n ≤ length out
+    go true p e = never e
+    go false p e = ltb-false (length out) n p
 
 -- A result that grows: one value more, put in the place behind those that are there
 pub set-next : {A : Type 0} (done out : List A) (i : ℕ) (v : A) → length done ≡ i → i < length out → set (done ++ drop i out) i v ≡ (done ++ (v ∷ [])) ++ drop (i + 1) out

@@ -13,7 +13,7 @@ use Rattle.verdict.specs.declared.Verdict.the-variants.{Done, Refused}
 use Rattle.verdict.specs.Refusal.{wrongText}
 use Rattle.verdict.specs.Output.{written}
 use Rattle.verdict.proofs.Outputs.{set-next}
-use Rattle.machine.specs.Run.{mostSteps}
+use Rattle.frame.specs.Steps.{mostSteps}
 use Rattle.waveform.specs.declared.signals.Signals.{Signals}
 use Rattle.waveform.specs.declared.read.Shown.{Shown}
 use Rattle.waveform.specs.declared.read.Next.{Next}

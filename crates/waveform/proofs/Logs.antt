@@ -14,9 +14,8 @@ use Rattle.verdict.specs.File.{byteAt, records}
 use Rattle.verdict.specs.Output.{tabulate, join}
 use Rattle.verdict.proofs.Lists.{all-tabulate, all-join, tabulate-ext, tabulate-of, map-tabulate, length-pieces, getD-pieces}
 use Rattle.frame.specs.Frame.{logRecord}
-use Rattle.machine.specs.Run.{mostSteps}
-use Rattle.machine.proofs.Lines.{bit-small, bit-level}
-use Rattle.machine.proofs.RunLaws.{three-flags}
+use Rattle.frame.specs.Steps.{mostSteps}
+use Rattle.wire.proofs.Levels.{bit-small, bit-level, three-flags}
 use Rattle.wire.specs.Wire.{asBit}
 use Rattle.waveform.specs.declared.signals.Signals.{Signals}
 use Rattle.waveform.specs.Signals.{signalsOf, flagsOf}

@@ -10,7 +10,7 @@ use borrow.Author.Tests.{ltb-true, ltb-false}
 use Rattle.verdict.specs.File.{records}
 use Rattle.verdict.proofs.Lists.{length-tabulate}
 use Rattle.frame.specs.Frame.{logRecord}
-use Rattle.machine.specs.Run.{mostSteps}
+use Rattle.frame.specs.Steps.{mostSteps}
 use Rattle.waveform.specs.declared.signals.Signals.{Signals}
 use Rattle.waveform.specs.declared.signals.Signal.{Signal}
 use Rattle.waveform.specs.declared.signals.Signal.the-variants.{Level, Enable, Contention}

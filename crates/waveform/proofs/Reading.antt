@@ -9,7 +9,7 @@ use lib.ListN.{length, drop, length-append, length-drop, drop-of-length-le}
 use lib.Seq.{drop-append-seam}
 use lib.Dec.{eqb, ltb}
 use borrow.Author.Tests.{eqb-true, ltb-false, eq-eqb, ne-eqb, le-ltb}
-use Rattle.machine.specs.Run.{mostSteps}
+use Rattle.frame.specs.Steps.{mostSteps}
 use Rattle.waveform.specs.declared.signals.Signals.{Signals}
 use Rattle.waveform.specs.declared.read.Shown.{Shown}
 use Rattle.waveform.specs.declared.read.Next.{Next}

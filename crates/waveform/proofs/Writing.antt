@@ -14,7 +14,7 @@ use Rattle.verdict.specs.File.{byteAt, records, fileVerdict}
 use Rattle.verdict.proofs.Lists.{length-tabulate, getD-tabulate}
 use Rattle.verdict.proofs.Checks.{accepted, accepts}
 use Rattle.frame.specs.Frame.{logRecord}
-use Rattle.machine.specs.Run.{mostSteps}
+use Rattle.frame.specs.Steps.{mostSteps}
 use Rattle.waveform.specs.declared.signals.Signals.{Signals}
 use Rattle.waveform.specs.Text.{timeLine}
 use Rattle.waveform.specs.Signals.{signalsOf}

@@ -12,7 +12,7 @@ use Rattle.verdict.specs.Refusal.{wrongText}
 use Rattle.verdict.specs.File.{records}
 use Rattle.verdict.specs.Output.{written}
 use Rattle.frame.specs.Frame.{logRecord}
-use Rattle.machine.specs.Run.{mostSteps}
+use Rattle.frame.specs.Steps.{mostSteps}
 use Rattle.waveform.specs.declared.lines.TimeLine.{TimeLine}
 use Rattle.waveform.specs.declared.signals.Signals.{Signals}
 use Rattle.waveform.specs.declared.signals.Signal.{Signal}

@@ -11,7 +11,7 @@ use Rattle.verdict.specs.Refusal.{wrongText, andThen}
 use Rattle.verdict.specs.File.{byteAt, records, fileVerdict}
 use Rattle.verdict.specs.Output.{tabulate, roomFor, Writes}
 use Rattle.frame.specs.Frame.{logRecord}
-use Rattle.machine.specs.Run.{mostSteps}
+use Rattle.frame.specs.Steps.{mostSteps}
 use Rattle.waveform.specs.declared.signals.Signals.{Signals}
 use Rattle.waveform.specs.declared.signals.Signal.the-variants.{Level, Enable, Contention}
 use Rattle.waveform.specs.Text.{ascii, timeLine}

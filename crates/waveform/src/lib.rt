@@ -5,7 +5,7 @@ mod read;
 mod signals;
 mod write;
 
-use machine::Steps;
+use frame::Steps;
 pub use read::read_vcd;
 pub use write::write_vcd;
 

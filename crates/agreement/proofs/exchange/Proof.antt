@@ -2,7 +2,7 @@
 use Rattle.agreement.proofs.exchange.Statement.{statement}
 use Rattle.agreement.proofs.exchange.Tie as tie
 use mathlib.Core.Path.{sym, _∙_}
-use Rattle.machine.proofs.Laws.{refuses-back}
+use Rattle.between.proofs.Laws.{refuses-back}
 use Rattle.agreement.proofs.ExchangeCalls.{planning-sends, Logged, logged, not-logged, exchanged, not-decoded}
 use borrow.Author.Needs.{needs}
 

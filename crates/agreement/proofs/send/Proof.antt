@@ -5,7 +5,7 @@ use Rattle.agreement.proofs.send.Tie as tie
 use mathlib.Core.Path.{_≡_, sym, _∙_}
 use Rattle.verdict.specs.declared.Verdict.the-variants.{Done}
 use Rattle.board.specs.Check.{checked}
-use Rattle.machine.proofs.Laws.{refuses-back}
+use Rattle.between.proofs.Laws.{refuses-back}
 use Rattle.agreement.proofs.ExchangeCalls.{Stepped, stepped, not-stepped, sent-by-run}
 
 sound : (c : tie.After-enum-told) → checked (c .before .before .before .before .before .before .args .board) ≡ Done (c .enum-told .given .0 .0)

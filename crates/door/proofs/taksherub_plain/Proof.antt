@@ -4,7 +4,7 @@ use Prim.Native.Nat.{ℕ}
 use Rattle.verdict.specs.Output.{join}
 use Rattle.frame.specs.Answers.{answerBytes}
 use Rattle.board.specs.declared.Board.{Board}
-use Rattle.machine.specs.Plain.{planning, answersOfPlain}
+use Rattle.plain_machine.specs.Plain.{planning, answersOfPlain}
 use Rattle.door.proofs.Opening.{opens-refused, opens-loaded}
 use borrow.Author.Needs.{needs}
 use Rattle.door.proofs.taksherub_plain.Statement.{statement}
@@ -43,9 +43,9 @@ same-length c = search needs
 
 returns-2 : tie.Need-returns-2
 returns-2 c =
-    let args = c .before .before .before .before .before .before .before .before .before .before .before .before .before .args in
-    opens-loaded (args .board .now) (c .before .before .before .before .before .before .before .before .load .result) (c .before .before .before .before .before .before .before .before .load .ensures) (λ board. planning board (args .list .now) (args .events .now) (args .answers .now)) (plainly (args .list .now) (args .events .now))
-    (c .before .before .before .before .before .before .enum-told .given .1) (c .before .before .before .plain .ensures .writes) (c .code2 .ensures)
+    let args = c .before .before .before .before .before .before .before .before .before .before .before .before .args in
+    opens-loaded (args .board .now) (c .before .before .before .before .before .before .before .load .result) (c .before .before .before .before .before .before .before .load .ensures) (λ board. planning board (args .list .now) (args .events .now) (args .answers .now)) (plainly (args .list .now) (args .events .now))
+    (c .before .before .before .before .before .enum-told .given .1) (c .before .before .before .plain .ensures .writes) (c .code2 .ensures)
 
 pub taksherub-plain-spec : {M : Type 1} → statement M
 taksherub-plain-spec =

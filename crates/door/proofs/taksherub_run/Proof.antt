@@ -2,7 +2,7 @@
 use mathlib.Core.List.{List}
 use Prim.Native.Nat.{ℕ}
 use Rattle.board.specs.declared.Board.{Board}
-use Rattle.machine.specs.Run.{running, logOfRun}
+use Rattle.wire_machine.specs.Run.{running, logOfRun}
 use Rattle.door.proofs.Opening.{opens-refused, opens-loaded}
 use borrow.Author.Needs.{needs}
 use Rattle.door.proofs.taksherub_run.Statement.{statement}
@@ -41,9 +41,9 @@ same-length c = search needs
 
 returns-2 : tie.Need-returns-2
 returns-2 c =
-    let args = c .before .before .before .before .before .before .before .before .before .before .before .before .before .args in
-    opens-loaded (args .board .now) (c .before .before .before .before .before .before .before .before .load .result) (c .before .before .before .before .before .before .before .before .load .ensures) (λ board. running board (args .steps .now) (args .events .now) (args .log .now)) (logged (args .steps .now) (args .events .now))
-    (c .before .before .before .before .before .before .enum-told .given .1) (c .before .before .before .run .ensures .writes) (c .code2 .ensures)
+    let args = c .before .before .before .before .before .before .before .before .before .before .before .before .args in
+    opens-loaded (args .board .now) (c .before .before .before .before .before .before .before .load .result) (c .before .before .before .before .before .before .before .load .ensures) (λ board. running board (args .steps .now) (args .events .now) (args .log .now)) (logged (args .steps .now) (args .events .now))
+    (c .before .before .before .before .before .enum-told .given .1) (c .before .before .before .run .ensures .writes) (c .code2 .ensures)
 
 pub taksherub-run-spec : {M : Type 1} → statement M
 taksherub-run-spec =

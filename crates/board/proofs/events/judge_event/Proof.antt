@@ -25,7 +25,7 @@ returns-3 : tie.Need-returns-3
 returns-3 c =
     let event = rw (c .before .before .code-of .ensures) at (c .before .if1 .left) in
     let clock = rw (c .before .before .before .clock-of .ensures, c .before .before .before .before .before .pre) at (c .if2 .left) in
-    rw (event, clock)
+    rw (event, clock, c .before .before .before .clock-of .ensures)
 
 pub judge-event-spec : {M : Type 1} → statement M
 judge-event-spec =

@@ -15,7 +15,7 @@ use Rattle.board.proofs.record.addresses_of.Statement.{statement}
 use Rattle.board.proofs.record.addresses_of.Tie as tie
 
 abbrev Inv-loop : tie.InvT-loop
-Inv-loop board addresses₀ i₀ addresses i = (i ≤ 32) × (addresses ≡ filled (λ k. getD (board .phys) k nowhere .address) addresses₀ i)
+Inv-loop board addresses₀ i₀ addresses i = (i ≤ 32) × (addresses ≡ filled (λ k. getD (board .phys) k nowhere .own .address) addresses₀ i)
 
 abbrev μ-loop : tie.MeasureT-loop
 μ-loop board addresses₀ i₀ addresses i = 32 - i
@@ -50,7 +50,7 @@ returns c =
     let loop = c .before .loop in
     let places : length (board .phys) ≡ 32 = simp length-map at (c .before .before .good .0 .1 .1 .1 .0 .1 .0 .1) in
     let all : loop .i ≡ 32 = omega arith in
-    let address : Phy → ℕ = λ phy. phy .address in
+    let address : Phy → ℕ = λ phy. phy .own .address in
     loop .inv .1 ∙ rw (all, append-nil) (sym (tabulate-of 32 _ (addressesOf (board .phys)) 0 (length-map (board .phys) address ∙ places) (λ i l. List·getD-map address (board .phys) i nowhere)))
 
 pub addresses-of-spec : {M : Type 1} → statement M

@@ -1,60 +1,27 @@
--- Each branch is the first finding of `faultOf` that its tests pick.
-use Rattle.board.specs.Record.{faultOf}
+-- Nothing found is good, a number is bad.
+use Prim.Native.Nat.{ℕ, zero, suc}
+use mathlib.Core.Path.{_≡_, refl, ap, sym, _∙_}
+use Rattle.phy.specs.declared.own.Own.{Own}
+use Rattle.board.specs.declared.record.Record.the-variants.{Bad}
+use Rattle.board.specs.Record.{judged}
 use borrow.Author.Needs.{needs}
 use Rattle.board.proofs.record.judge.Statement.{statement}
 use Rattle.board.proofs.record.judge.Tie as tie
 
+found : (number : ℕ) (own : Own) → (number ≡ 0 → ⊥) → Bad number ≡ judged number own
+found zero own some = absurd (some refl)
+found (suc number) own some = refl
+
+fault-requires : tie.Need-fault-requires
+fault-requires c κs = search needs
+
 returns : tie.Need-returns
-unfolding faultOf
-returns c = rw (c .if1 .taken)
+returns c = ap (λ number. judged number (c .before .before .args .own)) (sym (c .if1 .taken) ∙ c .before .fault .ensures)
 
 returns-2 : tie.Need-returns-2
-unfolding faultOf
-returns-2 c = rw (c .before .if1 .left, c .if2 .taken)
-
-register-set-right-requires : tie.Need-register-set-right-requires
-register-set-right-requires c κs = search needs
-
-returns-3 : tie.Need-returns-3
-unfolding faultOf
-returns-3 c =
-    rw (c .before .before .before .before .before .if1 .left, c .before .before .before .before .if2 .left, ← (c .before .register-set-right .ensures), c .if3 .taken)
-
-defaults-right-requires : tie.Need-defaults-right-requires
-defaults-right-requires c κs = search needs
-
-returns-4 : tie.Need-returns-4
-unfolding faultOf
-returns-4 c =
-    rw (
-      c .before .before .before .before .before .before .before .if1 .left,
-      c .before .before .before .before .before .before .if2 .left,
-      ← (c .before .before .before .register-set-right .ensures),
-      c .before .before .if3 .left,
-      ← (c .before .defaults-right .ensures),
-      c .if4 .taken,
-    )
-
-returns-5 : tie.Need-returns-5
-unfolding faultOf
-returns-5 c =
-    rw (
-      c .before .before .before .before .before .before .before .if1 .left,
-      c .before .before .before .before .before .before .if2 .left,
-      ← (c .before .before .before .register-set-right .ensures),
-      c .before .before .if3 .left,
-      ← (c .before .defaults-right .ensures),
-      c .if4 .left,
-    )
+returns-2 c =
+    let own = c .before .before .args .own in
+    found (c .before .fault .result) own (c .if1 .left) ∙ ap (λ number. judged number own) (c .before .fault .ensures)
 
 pub judge-spec : {M : Type 1} → statement M
-judge-spec =
-    tie.close
-    (tie.spec
-    returns
-    returns-2
-    register-set-right-requires
-    returns-3
-    defaults-right-requires
-    returns-4
-    returns-5)
+judge-spec = tie.close (tie.spec fault-requires returns returns-2)

@@ -1,8 +1,8 @@
 -- Each test is its clause of `phySound`.
-use mathlib.Core.Path.{_≡_}
 use borrow.Author.Needs.{needs}
 use Rattle.board.proofs.sound.phy_sound.Statement.{statement}
 use Rattle.board.proofs.sound.phy_sound.Tie as tie
+use mathlib.Core.Path.{_≡_}
 use Rattle.phy.specs.Sound.{controlSound, phySound}
 use Rattle.phy.proofs.Words.{has-bit, has-no-bit}
 
@@ -44,11 +44,11 @@ returns : tie.Need-returns
 unfolding phySound
 returns c =
     rw (
-      c .before .before .before .before .before .before .before .registers-stand .ensures,
-      c .before .before .before .before .before .stands-outside .ensures,
-      control-stands (c .before .before .before),
-      c .before .before .reset-stands .ensures,
-      c .before .follower-sound .ensures,
+      c .before .before .before .before .before .before .before .before .registers-stand .ensures,
+      c .before .before .before .before .before .before .stands-outside .ensures,
+      control-stands (c .before .before .before .before),
+      c .before .before .before .reset-stands .ensures,
+      c .before .before .follower-sound .ensures,
       c .in-own-read .ensures,
       has-no-bit 5,
       has-bit 12,

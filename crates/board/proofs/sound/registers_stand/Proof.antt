@@ -1,22 +1,22 @@
--- The registers above 1 stand outside their masks: the loop stops at the first that does not.
-use mathlib.Core.Path.{_≡_, refl, sym}
-use mathlib.Core.Bool.{true, _||_}
+-- The registers above 1 stand outside their masks: one test more each turn.
+use mathlib.Core.Path.{_≡_, refl, ap}
+use mathlib.Core.Bool.{_||_}
 use Prim.Native.Nat.{_≤_, _-_}
 use native.Mathlib.Omega.{arith}
 use lib.Dec.{leb}
-use borrow.Author.Tests.{not-true, not-false}
 use Rattle.phy.specs.Record.{every, word}
 use Rattle.phy.specs.Sound.{standsOutside, registersStand}
-use Rattle.phy.proofs.Every.{every-fails, every-next}
+use Rattle.board.proofs.Turns.{every-turn}
 use borrow.Author.Needs.{needs}
 use Rattle.board.proofs.sound.registers_stand.Statement.{statement}
 use Rattle.board.proofs.sound.registers_stand.Tie as tie
 
 abbrev Inv-loop : tie.InvT-loop
-Inv-loop phy r₀ r = (r ≤ 32) × (every r (λ i. leb i 1 || standsOutside (word (phy .masks) i) (word (phy .registers) i) (word (phy .defaults) i)) ≡ true)
+Inv-loop phy all₀ r₀ all r =
+    (r ≤ 32) × (all ≡ every r (λ i. leb i 1 || standsOutside (word (phy .masks) i) (word (phy .registers) i) (word (phy .defaults) i)))
 
 abbrev μ-loop : tie.MeasureT-loop
-μ-loop phy r₀ r = 32 - r
+μ-loop phy all₀ r₀ all r = 32 - r
 
 loop-holds : tie.Need-loop-holds Inv-loop μ-loop
 unfolding every
@@ -43,11 +43,6 @@ element-copy-out-stands-outside-3 c = search needs
 stands-outside-requires : tie.Need-stands-outside-requires Inv-loop μ-loop
 stands-outside-requires c κs = search needs
 
-returns : tie.Need-returns Inv-loop μ-loop
-unfolding registersStand
-returns c =
-    sym (every-fails _ 32 (c .before .before .before .before .before .before .loop .r) (search needs) (rw (← (c .before .stands-outside .ensures)) (not-true _ (c .if1 .taken))))
-
 add-r : tie.Need-add-r Inv-loop μ-loop
 add-r c = search needs
 
@@ -55,13 +50,15 @@ loop-less : tie.Need-loop-less Inv-loop μ-loop
 loop-less c = search needs
 
 loop-again : tie.Need-loop-again Inv-loop μ-loop
-loop-again c = (search needs, every-next _ _ (c .before .before .before .before .before .before .loop .inv .1) (rw (← (c .before .stands-outside .ensures)) (not-false _ (c .if1 .left))))
+loop-again c =
+    let loop = c .before .before .before .before .before .loop in
+    (search needs, every-turn _ (loop .r) (loop .inv .1) (ap (λ b. leb (loop .r) 1 || b) (c .stands-outside .ensures)))
 
-returns-2 : tie.Need-returns-2 Inv-loop μ-loop
+returns : tie.Need-returns Inv-loop μ-loop
 unfolding registersStand
-returns-2 c =
+returns c =
     let all : c .before .loop .r ≡ 32 = omega arith in
-    sym (rw all at (c .before .loop .inv .1))
+    rw all at (c .before .loop .inv .1)
 
 pub registers-stand-spec : {M : Type 1} → statement M
 registers-stand-spec =
@@ -77,8 +74,7 @@ registers-stand-spec =
     mul-stands-outside-3
     element-copy-out-stands-outside-3
     stands-outside-requires
-    returns
     add-r
     loop-less
     loop-again
-    returns-2)
+    returns)

@@ -1,10 +1,10 @@
 -- The bits seen before the clock say whether it ends a header or a frame.
-use borrow.Author.Tests.{ne-eqb}
-use native.Mathlib.Nat.{div-one}
-use Rattle.phy.specs.Clock.{acts}
 use borrow.Author.Needs.{needs}
 use Rattle.phy.proofs.Phy.acts.Statement.{statement}
 use Rattle.phy.proofs.Phy.acts.Tie as tie
+use borrow.Author.Tests.{ne-eqb}
+use native.Mathlib.Nat.{div-one}
+use Rattle.phy.specs.Clock.{acts}
 
 of-requires : tie.Need-of-requires
 of-requires c κs = search needs
@@ -21,16 +21,13 @@ cast-word c = search needs
 after-frame-requires : tie.Need-after-frame-requires
 after-frame-requires c κs = search needs
 
-with-captured-requires : tie.Need-with-captured-requires
-with-captured-requires c κs = search needs
-
 returns : tie.Need-returns
 unfolding acts
 returns c = rw (c .before .before .match .keys1, div-one, ← c .before .of .ensures) (c .at-header .ensures)
 
 returns-2 : tie.Need-returns-2
 unfolding acts
-returns-2 c = rw (c .before .before .before .match .keys2, ← c .before .before .of2 .ensures, ← c .before .after-frame .ensures) (c .with-captured .ensures)
+returns-2 c = rw (c .before .before .match .keys2, ← c .before .of2 .ensures, ← c .after-frame .ensures)
 
 returns-3 : tie.Need-returns-3
 unfolding acts
@@ -45,7 +42,6 @@ acts-spec =
     of-requires-2
     cast-word
     after-frame-requires
-    with-captured-requires
     returns
     returns-2
     returns-3)

@@ -19,7 +19,7 @@ write-control-requires c κs = search needs
 write-ordinary-requires : tie.Need-write-ordinary-requires
 write-ordinary-requires c κs =
     let args = c .before .before .before .before .args in
-    implemented-below (args .register) (args .self) (not (c .before .before .in-reset .result)) (rw (← c .before .before .before .implements .ensures) (c .before .if1 .taken))
+    implemented-below (args .register) (args .self .own) (not (c .before .before .in-reset .result)) (rw (← c .before .before .before .implements .ensures) (c .before .if1 .taken))
 
 returns : tie.Need-returns
 unfolding afterWrite writeBy

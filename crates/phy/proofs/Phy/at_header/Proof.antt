@@ -13,12 +13,9 @@ after-header-requires c κs = search needs
 word-requires : tie.Need-word-requires
 word-requires c κs = search needs
 
-with-captured-requires : tie.Need-with-captured-requires
-with-captured-requires c κs = search needs
-
 returns : tie.Need-returns
 unfolding atHeader
-returns c = rw (← c .before .before .before .before .answers .ensures, c .before .before .before .if1 .taken, ← c .before .before .after-header .ensures, ← c .before .word .ensures) (c .with-captured .ensures)
+returns c = rw (← c .before .before .before .answers .ensures, c .before .before .if1 .taken, ← c .before .after-header .ensures, ← c .word .ensures)
 
 returns-2 : tie.Need-returns-2
 unfolding atHeader
@@ -26,11 +23,4 @@ returns-2 c = rw (← c .before .answers .ensures, c .if1 .left)
 
 pub at-header-spec : {M : Type 1} → statement M
 at-header-spec =
-    tie.close
-    (tie.spec
-    answers-requires
-    after-header-requires
-    word-requires
-    with-captured-requires
-    returns
-    returns-2)
+    tie.close (tie.spec answers-requires after-header-requires word-requires returns returns-2)

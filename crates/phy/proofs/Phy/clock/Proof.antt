@@ -1,4 +1,7 @@
 -- The follower moves by the level, and what else the clock does goes by the bits seen.
+use borrow.Author.Needs.{needs}
+use Rattle.phy.proofs.Phy.clock.Statement.{statement}
+use Rattle.phy.proofs.Phy.clock.Tie as tie
 use mathlib.Core.Path.{sym, ap, ap₂, _∙_}
 use Prim.Native.Nat.{ℕ}
 use Rattle.wire.specs.declared.Follower.the-variants.{Hunting, Inside}
@@ -6,9 +9,6 @@ use Rattle.wire.specs.Follower.{follow}
 use Rattle.phy.specs.Fields.{withFollower}
 use Rattle.phy.specs.Clock.{acts}
 use Rattle.phy.proofs.Clocks.{clock-by}
-use borrow.Author.Needs.{needs}
-use Rattle.phy.proofs.Phy.clock.Statement.{statement}
-use Rattle.phy.proofs.Phy.clock.Tie as tie
 
 enough-requires : tie.Need-enough-requires
 enough-requires c κs = search needs
@@ -22,15 +22,15 @@ enum-known-follower c = search needs
 enum-told : tie.Need-enum-told
 enum-told c = search needs
 
-with-follower-requires : tie.Need-with-follower-requires
-with-follower-requires c κs = search needs
+with-line-requires : tie.Need-with-line-requires
+with-line-requires c κs = search needs
 
 returns : tie.Need-returns
 returns c =
     let self = c .before .before .before .before .before .args .self in
     let level = c .before .before .before .before .before .args .level in
     let next = c .before .before .before .follow .ensures ∙ ap (λ (n : ℕ). follow n level (self .follower)) (c .before .before .before .before .enough .ensures) in
-    c .with-follower .ensures
+    c .with-line .ensures
     ∙ ap (λ f. withFollower f self) next
     ∙ sym (clock-by level self (Hunting _) (c .before .enum-told .given .1))
 
@@ -40,8 +40,8 @@ one-more-requires c κs = search needs
 acts-requires : tie.Need-acts-requires
 acts-requires c κs = search needs
 
-with-follower-requires-2 : tie.Need-with-follower-requires-2
-with-follower-requires-2 c κs = search needs
+with-line-requires-2 : tie.Need-with-line-requires-2
+with-line-requires-2 c κs = search needs
 
 returns-2 : tie.Need-returns-2
 returns-2 c =
@@ -49,7 +49,7 @@ returns-2 c =
     let level = c .before .before .before .before .before .before .before .before .args .level in
     let next = c .before .before .before .before .before .before .follow .ensures ∙ ap (λ (n : ℕ). follow n level (self .follower)) (c .before .before .before .before .before .before .before .enough .ensures) in
     let now = c .before .before .before .before .follower .given in
-    c .with-follower2 .ensures
+    c .with-line2 .ensures
     ∙ ap₂ withFollower next (c .before .acts .ensures ∙ ap (λ (b : ℕ). acts (now .0 .0) b self) (c .before .before .one-more .ensures))
     ∙ sym (clock-by level self (Inside (now .0 .0) (now .0 .1 .0)) (now .1))
 
@@ -61,9 +61,9 @@ clock-spec =
     follow-requires
     enum-known-follower
     enum-told
-    with-follower-requires
+    with-line-requires
     returns
     one-more-requires
     acts-requires
-    with-follower-requires-2
+    with-line-requires-2
     returns-2)

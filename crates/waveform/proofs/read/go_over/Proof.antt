@@ -8,7 +8,7 @@ use native.Mathlib.Omega.{arith}
 use types.Run.{OneOf}
 use lib.ListN.{set}
 use denote.Enum.Declared.{tagOf}
-use Rattle.machine.specs.Run.{mostSteps}
+use Rattle.frame.specs.Steps.{mostSteps}
 use Rattle.waveform.specs.declared.read.Shown.{Shown}
 use Rattle.waveform.specs.declared.read.Next.the-variants.{Clock}
 use Rattle.waveform.specs.Text.{startsWith}

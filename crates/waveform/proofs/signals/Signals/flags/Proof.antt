@@ -5,7 +5,7 @@ use mathlib.Core.Bool.{Bool, true, false}
 use native.Mathlib.Omega.{arith}
 use mir.Val.{boolByte}
 use Rattle.wire.specs.Wire.{asBit}
-use Rattle.machine.proofs.Lines.{bit-small}
+use Rattle.wire.proofs.Levels.{bit-small}
 use Rattle.waveform.specs.Signals.{flagsOf}
 use borrow.Author.Needs.{needs}
 use Rattle.waveform.proofs.signals.Signals.flags.Statement.{statement}

@@ -1,0 +1,9 @@
+pub mod Laws
+pub mod Places
+pub mod Filling
+pub mod Finding
+pub mod EachPlace
+pub mod HappensEffect
+pub mod Happenings
+pub mod EventPlaces
+pub mod EventParts

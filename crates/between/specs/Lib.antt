@@ -1,0 +1,4 @@
+pub mod Outcome
+pub mod Events
+pub mod Happened
+pub mod Parts

@@ -1,0 +1,3 @@
+pub mod SoundBoards
+pub mod RunParts
+pub mod PartsAccepted

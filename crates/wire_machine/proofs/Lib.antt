@@ -1,0 +1,12 @@
+pub mod Lines
+pub mod Turns
+pub mod Hearing
+pub mod RunEach
+pub mod Lockstep
+pub mod Quiet
+pub mod EventLine
+pub mod Stands
+pub mod Alike
+pub mod Accepts
+pub mod Begins
+pub mod RunLaws

@@ -1,0 +1,5 @@
+pub mod Log
+pub mod Run
+pub mod Lines
+pub mod Common
+pub mod Clocks
