@@ -46,7 +46,7 @@
  *
  * taksherub_decode and taksherub_listen use at most 256 bytes of stack, however
  * much there is to decode. taksherub_run and taksherub_plain hold boards by
- * value, and use some 40 and 60 kilobytes.
+ * value, at most four at a time, and use at most 28 kilobytes.
  */
 #ifndef TAKSHERUB_H
 #define TAKSHERUB_H
