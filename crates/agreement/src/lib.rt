@@ -1,5 +1,7 @@
 // Demand 3: the machine on the wire and the plain machine agree. Here are its statements and proofs, and the calls that
 // they speak of: a list sent over the wire, and its answers heard there.
+#![tactic(auto)]
+
 ghost use Rattle.std.specs.Prelude.{◌≡◌, ◌*◌, length};
 ghost use Rattle.frame.specs.Frame.{log_record};
 ghost use Rattle.frame.specs.Steps.{most_steps};

@@ -1,5 +1,7 @@
 // What happens between clocks: which event record comes next, and the place of the PHY that an event or a frame is for; and what a machine
 // hands back (document 01, "Records" and "Refusal numbers").
+#![tactic(auto)]
+
 mod events;
 mod owners;
 
@@ -12,7 +14,7 @@ pub use owners::{owns_of, place_of, taker_of};
 use verdict::Verdict;
 
 // What a machine hands back.
-#[derive(Drop)]
+#[derive(Clone, Copy)]
 pub struct Outcome {
     pub verdict: Verdict,
     pub board: Board,

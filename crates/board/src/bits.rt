@@ -5,7 +5,7 @@ ghost use Rattle.phy.specs.Sound.{stands_outside};
 use phy::{Control, ExtendedStatus, Phy, Status};
 
 // The registers by name, as places in a PHY's arrays.
-#[derive(Drop)]
+#[derive(Clone, Copy)]
 pub(crate) struct Register {}
 
 impl Register {

@@ -10,7 +10,7 @@ use phy::Event;
 use verdict::Verdict;
 
 // A record of the event file is good, and its event comes after this clock, or bad with a refusal's number.
-#[derive(Drop)]
+#[derive(Clone, Copy)]
 enum EventRecord {
     Good(u16),
     Bad(u8),

@@ -1,5 +1,7 @@
 // Up to 32 PHYs: the board file, what makes a board sound, and the event file (document 01, "Records" and "A sound
 // board").
+#![tactic(auto)]
+
 mod bits;
 mod events;
 mod file;
@@ -14,7 +16,7 @@ pub use file::load;
 use phy::Phy;
 use verdict::Verdict;
 
-#[derive(Drop)]
+#[derive(Clone, Copy)]
 pub struct Board {
     // How many PHYs there are; they stand in the first places.
     pub count: usize,
@@ -34,7 +36,7 @@ impl Board {
 }
 
 // What a load of the board file hands back.
-#[derive(Drop)]
+#[derive(Clone, Copy)]
 pub struct Loaded {
     pub verdict: Verdict,
     pub board: Board,

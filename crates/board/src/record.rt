@@ -11,7 +11,7 @@ use verdict::Verdict;
 
 // A record of the board file is good, and its PHY is this one, or bad with a refusal's number. The words of a good record stand
 // beside it, since an enum holds no arrays.
-#[derive(Drop)]
+#[derive(Clone, Copy)]
 pub(crate) enum Record {
     Good(Own),
     Bad(u8),

@@ -1,6 +1,8 @@
 // Bench cases and limits of document 01 that are run and compared. A case is a line of the standard input: what is
 // tried, a colon, and the words that try it. The answers that must come are in the file stdout, written from document
 // 01. The cases are data and not code, so that a case more costs nothing to prove.
+#![tactic(auto)]
+
 mod buffers;
 mod calls;
 mod changes;

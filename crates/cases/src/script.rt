@@ -2,7 +2,7 @@
 // hexadecimal after an x; one that is not there is 0. Each module that obeys words says at its top which.
 ghost use Rattle.std.specs.Prelude.{◌≤◌, ◌*◌};
 
-#[derive(Drop)]
+#[derive(Clone, Copy)]
 pub(crate) struct Word {
     // The first letter.
     pub(crate) letter: u8,
@@ -13,7 +13,7 @@ pub(crate) struct Word {
     pub(crate) next: usize,
 }
 
-#[derive(Drop)]
+#[derive(Clone, Copy)]
 struct Number {
     value: u32,
     next: usize,

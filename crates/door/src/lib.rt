@@ -1,5 +1,7 @@
 // The bench's calls for C and Rust: numbers and byte slices. Each answers 0 when done, else number * 65536 + index; a
 // refusal writes nothing.
+#![tactic(auto)]
+
 ghost use Rattle.std.specs.Prelude.{◌≡◌};
 ghost use Rattle.door.specs.Door.{code_of, OpensTranslate, OpensDecode, OpensRun, OpensPlain, OpensListen, OpensWriteVcd, OpensReadVcd};
 

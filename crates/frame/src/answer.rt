@@ -8,7 +8,7 @@ use crate::list::{Parse, Transaction, check_list, parsed_at};
 use crate::log::log_part;
 use verdict::{Verdict, byte_at};
 
-#[derive(Drop)]
+#[derive(Clone, Copy)]
 pub struct Answer {
     pub status: u8,
     pub op: u8,
@@ -52,7 +52,7 @@ fn level(part: &[u8], clock: usize) -> u8
 }
 
 // What is learned of a read's turnaround: the level at its second clock, the 48th.
-#[derive(Drop)]
+#[derive(Clone, Copy)]
 pub struct Turnaround {
     pub second: u8,
 }

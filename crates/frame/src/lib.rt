@@ -1,5 +1,7 @@
 // The Clause 22 frame: a list of transactions, the clock steps that send it, and the answers that a log of them holds
 // (document 01, "Records" and "Clock steps").
+#![tactic(auto)]
+
 mod answer;
 mod list;
 mod log;
@@ -11,7 +13,7 @@ pub use log::log_part;
 pub use steps::{Step, Steps, translate};
 
 // The shared numbers of a frame. Clocks are positions from 1, and each follows from the preamble's length.
-#[derive(Drop)]
+#[derive(Clone, Copy)]
 pub struct Frame {}
 
 impl Frame {

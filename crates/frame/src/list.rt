@@ -4,7 +4,7 @@ ghost use Rattle.frame.specs.List.{transaction_at, fault_of, parsed, refusal_of,
 
 use verdict::{Verdict, byte_at, word_at};
 
-#[derive(Drop)]
+#[derive(Clone, Copy)]
 pub struct Transaction {
     pub op: u8,
     pub address: u8,
@@ -27,7 +27,7 @@ impl Transaction {
 }
 
 // A record of the list is a good transaction, or bad with a refusal's number.
-#[derive(Drop)]
+#[derive(Clone, Copy)]
 pub enum Parse {
     Good(Transaction),
     Bad(u8),

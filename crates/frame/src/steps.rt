@@ -9,7 +9,7 @@ use crate::list::{Parse, Transaction, check_list, parsed_at};
 use verdict::Verdict;
 
 // A clock step is one byte.
-#[derive(Drop)]
+#[derive(Clone, Copy)]
 pub struct Step {}
 
 impl Step {
@@ -23,7 +23,7 @@ impl Step {
 }
 
 // Steps one after the other, one for each clock.
-#[derive(Drop)]
+#[derive(Clone, Copy)]
 pub struct Steps {}
 
 impl Steps {

@@ -1,4 +1,6 @@
 // The listener: what an analyser saved of the wire, one byte per clock, read back as answer records (document 02, E1).
+#![tactic(auto)]
+
 ghost use Rattle.std.specs.Prelude.{◌≡◌, ◌≤◌, length};
 ghost use Rattle.listener.specs.Frames.{frames_ending};
 ghost use Rattle.listener.specs.Records.{transaction_in, turnaround_in, records_of, records_of_all, records_given};
@@ -10,7 +12,7 @@ use verdict::{Verdict, check_bytes};
 use wire::{Follower, Header};
 
 // What is saved: as many bytes as the longest run has clocks, each a level.
-#[derive(Drop)]
+#[derive(Clone, Copy)]
 pub struct Capture {}
 
 impl Capture {
@@ -47,7 +49,7 @@ fn turnaround_in(frame: u32) -> Turnaround
 }
 
 // What a clock gives the listener: the record of the frame that it ends.
-#[derive(Drop)]
+#[derive(Clone, Copy)]
 enum Given {
     Nothing,
     Record(Answer),
@@ -105,7 +107,7 @@ fn next_start(levels: &[u8], from: usize) -> usize
 }
 
 // What a frame gave, and the clock behind it.
-#[derive(Drop)]
+#[derive(Clone, Copy)]
 struct Passed {
     given: Given,
     behind: usize,

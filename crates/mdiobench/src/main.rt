@@ -1,5 +1,7 @@
 // The bench's program. Started without arguments it sends a list over the wire, and prints an answer a line, or one refusal;
 // with `vcd` it prints the waveform of that run, and with `listen` it reads a capture back.
+#![tactic(auto)]
+
 mod capture;
 mod input;
 mod report;
@@ -14,7 +16,7 @@ use libc::{STDERR_FILENO, STDIN_FILENO};
 use verdict::Verdict;
 
 // What is asked of a tray.
-#[derive(Drop)]
+#[derive(Clone, Copy)]
 enum Wanted {
     Answers,
     Waveform,

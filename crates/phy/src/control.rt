@@ -6,7 +6,7 @@ ghost use Rattle.phy.specs.Control.{speed_able, speed_from, new_bit12, new_bit9,
 
 use crate::status::{ExtendedStatus, Status};
 
-#[derive(Drop)]
+#[derive(Clone, Copy)]
 pub struct Control {}
 
 impl Control {

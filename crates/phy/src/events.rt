@@ -8,7 +8,7 @@ use crate::Phy;
 use crate::control::Control;
 use crate::status::Status;
 
-#[derive(Drop)]
+#[derive(Clone, Copy)]
 pub struct Event {}
 
 impl Event {

@@ -1,5 +1,7 @@
 // One transceiver (document 01, "The PHY's follower" and "Registers"). It goes by value: each method hands the next PHY
 // back.
+#![tactic(auto)]
+
 mod clock;
 mod control;
 mod events;
@@ -13,7 +15,7 @@ pub use own::Own;
 pub use status::{ExtendedStatus, Status};
 use wire::Follower;
 
-#[derive(Drop)]
+#[derive(Clone, Copy)]
 pub struct Phy {
     pub own: Own,
     pub defaults: [u16; 32],

@@ -3,10 +3,10 @@ ghost use Rattle.std.specs.Prelude.{◌≡◌};
 ghost use Rattle.phy.specs.Abilities.{able10, able100, able1000, able_full, able_half};
 ghost use Rattle.phy.specs.Registers.{held_after};
 
-#[derive(Drop)]
+#[derive(Clone, Copy)]
 pub struct Status {}
 
-#[derive(Drop)]
+#[derive(Clone, Copy)]
 pub struct ExtendedStatus {}
 
 impl Status {

@@ -1,4 +1,6 @@
 // The plain machine: board, list and events, and no wire (document 01, "Clock steps").
+#![tactic(auto)]
+
 mod transact;
 
 ghost use Rattle.plain_machine.specs.Plain.{Planned};

@@ -1,9 +1,11 @@
 // What every call shares: its answer, and the bytes of a file (document 01, "Records" and "Refusal numbers").
+#![tactic(auto)]
+
 ghost use Rattle.std.specs.Prelude.{◌≡◌};
 ghost use Rattle.verdict.specs.File.{byte_at, word_at, bytes_verdict};
 
 // The answer of every call.
-#[derive(Drop)]
+#[derive(Clone, Copy)]
 pub enum Verdict {
     // The bytes written where a call writes, else the number of records or PHYs.
     Done(usize),

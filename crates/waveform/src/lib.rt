@@ -1,5 +1,7 @@
 // Waveforms for the students: a log as the text of a Value Change Dump (IEEE 1364), which free viewers open, and our own text
 // read back (document 02, E3).
+#![tactic(auto)]
+
 mod lines;
 mod read;
 mod signals;
@@ -9,7 +11,7 @@ use frame::Steps;
 pub use read::read_vcd;
 pub use write::write_vcd;
 
-#[derive(Drop)]
+#[derive(Clone, Copy)]
 pub struct Waveform {}
 
 impl Waveform {

@@ -63,7 +63,7 @@ fn digit(value: usize) -> u8
 }
 
 // A time line, of as many bytes as the clock's number asks for.
-#[derive(Drop)]
+#[derive(Clone, Copy)]
 pub(crate) struct TimeLine {
     pub(crate) bytes: [u8; 6],
     pub(crate) size: usize,

@@ -9,7 +9,7 @@ use crate::signals::{Signal, Signals};
 use verdict::Verdict;
 
 // The value of a signal in a clock, and the place behind its line.
-#[derive(Drop)]
+#[derive(Clone, Copy)]
 pub(crate) struct Seen {
     value: bool,
     behind: usize,
@@ -41,7 +41,7 @@ fn see(text: &[u8], at: usize, signal: Signal, old: bool, first: bool) -> Seen
 }
 
 // The signals of a clock, and the place behind its lines.
-#[derive(Drop)]
+#[derive(Clone, Copy)]
 pub(crate) struct Shown {
     signals: Signals,
     behind: usize,
@@ -71,7 +71,7 @@ fn see_all(text: &[u8], at: usize, old: Signals, first: bool) -> Shown
 }
 
 // What comes next in the text: another clock, the closing time, or what the writer never writes there.
-#[derive(Drop)]
+#[derive(Clone, Copy)]
 pub(crate) enum Next {
     Clock(Shown),
     Closing,

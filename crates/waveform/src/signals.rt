@@ -2,7 +2,7 @@
 ghost use Rattle.std.specs.Prelude.{◌≡◌};
 ghost use Rattle.waveform.specs.Signals.{signals_of, flags_of, line_of};
 
-#[derive(Drop)]
+#[derive(Clone, Copy)]
 pub(crate) struct Signals {
     pub(crate) level: bool,
     pub(crate) enable: bool,
@@ -28,7 +28,7 @@ impl Signals {
     }
 }
 
-#[derive(Drop)]
+#[derive(Clone, Copy)]
 pub(crate) enum Signal {
     Level,
     Enable,

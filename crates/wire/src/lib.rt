@@ -1,19 +1,21 @@
 // What every party on the wire has in common: what it may drive in a clock, and how it follows frames by the levels
 // alone (document 01, "Clock steps" and "The PHY's follower").
+#![tactic(auto)]
+
 ghost use Rattle.std.specs.Prelude.{◌≡◌};
 ghost use Rattle.wire.specs.Follower.{one_more, follow, header_of};
 
 use frame::Frame;
 
 // What one party does to the wire in a clock.
-#[derive(Drop)]
+#[derive(Clone, Copy)]
 pub enum Drive {
     Released,
     Driven(bool),
 }
 
 // What a party knows of the frames on the wire.
-#[derive(Drop)]
+#[derive(Clone, Copy)]
 pub enum Follower {
     // Hunting for a frame, with the ones seen, at most 32.
     Hunting(u8),
@@ -22,7 +24,7 @@ pub enum Follower {
 }
 
 // The first 14 bits of a frame: start, op, address, register.
-#[derive(Drop)]
+#[derive(Clone, Copy)]
 pub struct Header {
     pub start: u8,
     pub op: u8,

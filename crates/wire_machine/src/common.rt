@@ -8,7 +8,7 @@ use frame::Transaction;
 use phy::Phy;
 use wire::{Follower, Header};
 
-#[derive(Drop)]
+#[derive(Clone, Copy)]
 pub(crate) struct Common {
     // Whether every line's follower is this one. What a line itself says of its follower is then out of date.
     pub(crate) alike: bool,

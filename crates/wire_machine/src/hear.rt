@@ -9,7 +9,7 @@ use crate::common::Common;
 use crate::line::Line;
 use wire::{Drive, Follower};
 
-#[derive(Drop)]
+#[derive(Clone, Copy)]
 pub(crate) struct Heard {
     pub(crate) level: bool,
     // Whether the station drives, whether any party does, and whether two or more do.

@@ -1,4 +1,6 @@
 // The machine on the wire: `run`, clock by clock (document 01, "Clock steps").
+#![tactic(auto)]
+
 mod clocks;
 mod common;
 mod hear;

@@ -10,7 +10,7 @@ use frame::{Frame, Transaction};
 use phy::{Own, Phy};
 use wire::{Drive, Follower, Header};
 
-#[derive(Drop)]
+#[derive(Clone, Copy)]
 pub(crate) struct Line {
     pub(crate) own: Own,
     pub(crate) enough: u8,
