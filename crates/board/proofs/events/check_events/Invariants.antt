@@ -1,0 +1,28 @@
+-- The records are asked in order, and the first at fault refuses.
+use Prim.Native.Nat.{ℕ, ◌≤◌, ◌-◌, min}
+use mathlib.Core.Bool.{Bool, false}
+use mathlib.Core.List.{List}
+use mathlib.Core.Path.{◌≡◌, refl, ap, ap₂, sym, ◌∙◌}
+use native.Mathlib.Omega.{arith}
+use native.Mathlib.Nat.{sub-zero}
+use native.Mathlib.Numerals.{add-one}
+use lib.Dec.{eqb}
+use lib.ListN.{get_or}
+use borrow.Author.Tests.{eq-eqb, ne_eqb, lt-ltb, le-ltb}
+use Rattle.verdict.specs.declared.Verdict.TheVariants.{Done, Refused}
+use Rattle.verdict.specs.File.{in_order, file_verdict}
+use Rattle.verdict.proofs.Checks.{next, stop, finish}
+use Rattle.phy.specs.Record.{any}
+use Rattle.board.specs.Check.{places}
+use Rattle.board.specs.Events.{event_clock, event_address, clock_before, event_fault_as, event_fault, judged, refusal_of, on_board, events_verdict}
+use Rattle.board.proofs.Records.{good-event, bad-event, among-is}
+use borrow.Author.Rules.{rules}
+use Rattle.board.proofs.events.check_events.Given as goal
+
+abbrev pub invariant-loop-k : goal.invariant-loop-k
+invariant-loop-k l =
+    (l.k ≤ l.count) × (l.before ≡ clock_before l.events l.k)
+    × (file_verdict 4 256 (fault_by l.there l.events l.last) l.events ≡ in_order (fault_by l.there l.events l.last) l.k (l.count - l.k) (Done l.count))
+
+abbrev pub decreases-loop-k : goal.decreases-loop-k
+decreases-loop-k l = l.count - l.k

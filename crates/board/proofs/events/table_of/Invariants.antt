@@ -1,0 +1,18 @@
+-- One address more each turn.
+use Prim.Native.Nat.{ℕ, ◌≤◌, ◌<◌, ◌-◌}
+use mathlib.Core.Bool.{true, false}
+use mathlib.Core.Path.{◌≡◌, ap, ◌∙◌}
+use native.Mathlib.Omega.{arith}
+use lib.ListN.{get_or, set}
+use mir.Syntax.{w8}
+use mir.Val.{Fits}
+use Rattle.board.specs.Record.{taken_by}
+use Rattle.board.proofs.Taken.{taken_none, taken_next, taken-anywhere}
+use borrow.Author.Rules.{rules}
+use Rattle.board.proofs.events.table_of.Given as goal
+
+abbrev pub invariant-loop-i : goal.invariant-loop-i
+invariant-loop-i l = (l.i ≤ l.n) × (l.there ≡ taken_by (λ k. get_or l.addresses k 0) l.i)
+
+abbrev pub decreases-loop-i : goal.decreases-loop-i
+decreases-loop-i l = l.n - l.i

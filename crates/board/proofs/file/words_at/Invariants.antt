@@ -1,0 +1,31 @@
+-- A loop puts the pairs of bytes, low byte first, and a loop turns each into its word.
+use mathlib.Core.Path.{◌≡◌, refl, ap, ◌∙◌}
+use mathlib.Core.List.{List, append-nil}
+use Prim.Native.Nat.{ℕ, suc, ◌+◌, ◌*◌, ◌/◌, ◌%◌, ◌≤◌, ◌<◌, ◌-◌}
+use native.Mathlib.Omega.{arith}
+use lib.ListN.{length, get_or, drop, replicate}
+use lib.Seq.{drop-cons, get_or_at}
+use Rattle.verdict.specs.Output.{tabulate}
+use Rattle.verdict.specs.File.{byte_at, word_at}
+use Rattle.verdict.proofs.Lists.{length-tabulate, get_or-tabulate}
+use Rattle.verdict.proofs.Outputs.{filled, fill}
+use borrow.Author.Count.{below_none, below_more}
+use Rattle.board.specs.Load.{words_at}
+use borrow.Author.Rules.{rules}
+use Rattle.board.proofs.file.words_at.Given as goal
+
+abbrev pub invariant-loop-r : goal.invariant-loop-r
+invariant-loop-r l =
+    (l.r ≤ 32)
+    × (l.words ≡ filled (λ i. pair_at l.file (l.start + i * 2)) (replicate 32 0) l.r)
+    × ((k : ℕ) → k < l.r → Bytes l.file (l.start + k * 2))
+
+abbrev pub decreases-loop-r : goal.decreases-loop-r
+decreases-loop-r l = 32 - l.r
+
+abbrev pub invariant-loop-i : goal.invariant-loop-i
+invariant-loop-i l =
+    (l.i ≤ 32) × (l.words ≡ filled (λ k. word_at l.file (l.start + k * 2)) (tabulate 32 (λ k. pair_at l.file (l.start + k * 2))) l.i)
+
+abbrev pub decreases-loop-i : goal.decreases-loop-i
+decreases-loop-i l = 32 - l.i

@@ -1,0 +1,17 @@
+-- Line by line, each by the common follower.
+use Prim.Native.Nat.{◌≤◌, ◌-◌}
+use mathlib.Core.Path.{◌≡◌, refl, sym, ap, ◌∙◌}
+use native.Mathlib.Omega.{arith}
+use lib.ListN.{length, take, drop}
+use borrow.Author.Rules.{rules}
+use Rattle.wire_machine.specs.Lines.{heard_station, heard_from}
+use Rattle.wire_machine.specs.Common.{alike_by, stands, standing}
+use Rattle.wire_machine.proofs.Hearing.{small_at, heard-next, heard_all}
+use Rattle.wire_machine.proofs.hear.hear_alike.Given as goal
+
+abbrev pub invariant-loop-i : goal.invariant-loop-i
+invariant-loop-i l =
+    (l.i ≤ l.count) × (heard_from l.heard (drop l.i (take l.count (standing (alike_by l.follower) l.lines))) ≡ heard_from l.initial.heard (take l.count (standing (alike_by l.follower) l.lines)))
+
+abbrev pub decreases-loop-i : goal.decreases-loop-i
+decreases-loop-i l = l.count - l.i

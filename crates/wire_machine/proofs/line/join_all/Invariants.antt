@@ -1,0 +1,20 @@
+-- Place by place: after i turns the first i PHYs have their lines again.
+use Prim.Native.Nat.{◌≤◌, ◌-◌}
+use mathlib.Core.Path.{◌≡◌, refl, sym, ap, ◌∙◌}
+use native.Mathlib.Omega.{arith}
+use lib.ListN.{length, get_or, length-map}
+use borrow.Author.Rules.{rules}
+use Rattle.verdict.specs.Output.{tabulate}
+use Rattle.verdict.proofs.Outputs.{filled}
+use Rattle.phy.specs.Sound.{nowhere}
+use Rattle.wire_machine.specs.Lines.{no_line, onto}
+use Rattle.wire_machine.specs.Common.{stands, standing}
+use Rattle.between.proofs.Filling.{map_at}
+use Rattle.wire_machine.proofs.Turns.{rejoined, join-next, join-end}
+use Rattle.wire_machine.proofs.line.join_all.Given as goal
+
+abbrev pub invariant-loop-i : goal.invariant-loop-i
+invariant-loop-i l = (l.i ≤ l.count) × (l.board.count ≡ l.initial.board.count) × (l.board.phys ≡ filled (rejoined (standing l.common l.lines) l.initial.board) l.initial.board.phys l.i)
+
+abbrev pub decreases-loop-i : goal.decreases-loop-i
+decreases-loop-i l = l.count - l.i
