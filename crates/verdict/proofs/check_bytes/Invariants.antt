@@ -1,13 +1,8 @@
 -- The bytes are asked in order, and the first over the largest refuses.
 use Prim.Native.Nat.{◌≤◌, ◌-◌}
-use mathlib.Core.Path.{◌≡◌, sym, ◌∙◌}
-use mathlib.Core.Logic.{⊎_elim}
-use native.Mathlib.Nat.{sub-zero}
-use borrow.Author.Tests.{lt-ltb, le-ltb}
-use borrow.Author.Rules.{rules}
+use mathlib.Core.Path.{◌≡◌}
 use Rattle.verdict.specs.declared.Verdict.TheVariants.{Done}
 use Rattle.verdict.specs.File.{in_order, byte_fault, bytes_verdict}
-use Rattle.verdict.proofs.Checks.{next, stop, finish}
 use Rattle.verdict.proofs.check_bytes.Given as goal
 
 abbrev pub invariant-loop-k : goal.invariant-loop-k
