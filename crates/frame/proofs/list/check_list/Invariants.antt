@@ -1,14 +1,9 @@
 -- One law of records in order for each turn: a good record hands on, a bad one refuses.
-use lib.ListN.{length}
-use Prim.Native.Nat.{◌/◌, ◌-◌, ◌≤◌}
-use Rattle.frame.specs.List.{refusal_of, record_fault, list_verdict}
-use Rattle.frame.proofs.Lists.{refusal-parsed, bad-at-fault}
-use mathlib.Core.Path.{◌≡◌, ap, sym, ◌∙◌}
-use native.Mathlib.Omega.{arith}
-use borrow.Author.Tests.{ne_eqb, lt-ltb, le-ltb}
-use Rattle.verdict.specs.declared.Verdict.TheVariants.{Done, Refused}
-use Rattle.verdict.specs.File.{in_order, file_verdict}
-use Rattle.verdict.proofs.Checks.{next, stop, finish}
+use Prim.Native.Nat.{◌-◌, ◌≤◌}
+use Rattle.frame.specs.List.{record_fault, list_verdict}
+use mathlib.Core.Path.{◌≡◌}
+use Rattle.verdict.specs.declared.Verdict.TheVariants.{Done}
+use Rattle.verdict.specs.File.{in_order}
 use Rattle.frame.proofs.list.check_list.Given as goal
 
 abbrev pub invariant-loop-k : goal.invariant-loop-k

@@ -1,0 +1,64 @@
+-- Transaction by transaction: after k turns the output begins with the steps of the first k.
+use mathlib.Core.Path.{ap₂, ◌≡◌, refl, ap, sym, ◌∙◌}
+use Rattle.verdict.specs.Output.{written, tabulate, join}
+use Rattle.verdict.proofs.Outputs.{pieced-all, succeeds, pieced, piece-next}
+use Rattle.frame.specs.declared.list.Transaction.{Transaction}
+use Rattle.frame.specs.Steps.{step_at, steps_of}
+use mathlib.Core.List.{map, List}
+use lib.ListN.{take, drop, length}
+use Rattle.verdict.specs.declared.Verdict.TheVariants.{Done}
+use Rattle.verdict.proofs.Lists.{map-tabulate}
+use Prim.Native.Nat.{ℕ, ◌+◌, ◌*◌, ◌-◌, ◌≤◌}
+use native.Mathlib.Omega.{arith}
+use borrow.Author.Tests.{le-ltb}
+use Rattle.frame.specs.List.{transaction_at, list_verdict}
+use Rattle.frame.proofs.Lists.{good-is-own, accepted-list, accepted-not-bad}
+use Rattle.frame.proofs.Positions.{length-steps, steps-by-position}
+use Rattle.frame.proofs.steps.translate.Invariants.{piece}
+use Rattle.frame.proofs.steps.translate.Goals as goal
+use Rattle.verdict.specs.declared.Verdict.{Verdict}
+
+-- an accepted list has few transactions
+few : (list : List ℕ) (r : Verdict) (n : ℕ) → r ≡ list_verdict list → r ≡ Done n → n ≤ 64
+few list r n verdict done = (accepted-list list n (sym verdict ∙ done)).allowed
+
+pub overflow_mul-count : goal.overflow_mul-count
+overflow_mul-count c = omega (arith, few _ _ _ c.check_list-listed.ensures c.in-Done.is)
+
+pub loop-k-init : goal.loop-k-init
+unfolding tabulate join
+loop-k-init c = (omega arith, refl)
+
+pub returns-in_default-record : goal.returns-in_default-record
+returns-in_default-record c = absurd (accepted-not-bad _ _ (sym c.check_list-listed.ensures ∙ c.in-Done.is) _ _ (omega arith) (sym c.parsed_at-record.ensures ∙ c.in_default-record.is))
+
+pub loop-k-preserved : goal.loop-k-preserved
+loop-k-preserved c =
+    let list = c.args.list.now in
+    let out = c.args.steps.now in
+    let k = c.loop-k.k in
+    let sent = good-is-own list k _ (sym c.parsed_at-record.ensures ∙ c.in-Good.is) in
+    let long : length (take (k * 65 + 65 - k * 65) (drop (k * 65) c.loop-k.steps)) ≡ 65 = omega (arith, c.send-arg-1.given.2) in
+    let sends =
+    c.send.ensures
+    ∙ ap₂ (λ (n : ℕ) (t : Transaction). tabulate n (λ i. step_at t (i + 1))) long sent
+    ∙ steps-by-position (transaction_at list k) in (
+      omega arith,
+      rw (sends, c.loop-k.invariant.1) (piece-next 65 (piece list) (λ j. length-steps (transaction_at list j)) out k),
+    )
+
+pub returns : goal.returns
+returns c =
+    let list = c.args.list.now in
+    let out = c.args.steps.now in
+    let n = c.in-Done.count in
+    let accepted : list_verdict list ≡ Done n = sym c.check_list-listed.ensures ∙ c.in-Done.is in
+    let all : c.loop-k.k ≡ n = omega arith in
+    let whole =
+    sym (map-tabulate steps_of n (transaction_at list))
+    ∙ ap (λ m. map steps_of (tabulate m (transaction_at list))) (accepted-list list n accepted).count in
+    succeeds (rw (accepted, le-ltb _ _ c.if-steps-count.false))
+    (c.loop-k.invariant.1
+    ∙ ap (pieced 65 (piece list) out) all
+    ∙ pieced-all 65 (piece list) (λ j. length-steps (transaction_at list j)) out n
+    ∙ ap (λ xss. written (join xss) out) whole)
