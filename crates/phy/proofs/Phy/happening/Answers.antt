@@ -1,0 +1,40 @@
+-- Each number has its own line; no other number changes anything.
+use Rattle.phy.specs.Fields.{with_link}
+use mathlib.Core.Path.{ap, ◌∙◌}
+use borrow.Author.Tests.{ne_eqb}
+use Rattle.phy.specs.Events.{happening}
+use Rattle.phy.proofs.Words.{or-bit, clear-bit}
+use borrow.Author.Rules.{rules}
+use Rattle.phy.proofs.Phy.happening.Goals as goal
+
+pub returns-in-1 : goal.returns-in-1
+unfolding happening
+returns-in-1 c = rw c.in-1.is c.with_link.ensures
+
+pub returns-in-2 : goal.returns-in-2
+unfolding happening
+returns-in-2 c = rw (c.in-2.is, ← clear-bit 2) (c.with_link-in-2.ensures ∙ ap (with_link _) c.clear_status.ensures)
+
+pub returns-in-3 : goal.returns-in-3
+unfolding happening
+returns-in-3 c = rw (c.in-3.is, ← or-bit 4) c.set_status.ensures
+
+pub returns-in-4 : goal.returns-in-4
+unfolding happening
+returns-in-4 c = rw (c.in-4.is, ← or-bit 1) c.set_status-in-4.ensures
+
+pub returns-in-5 : goal.returns-in-5
+unfolding happening
+returns-in-5 c = rw c.in-5.is c.complete.ensures
+
+pub returns-in-6 : goal.returns-in-6
+unfolding happening
+returns-in-6 c = rw (c.in-6.is, ← clear-bit 9) c.clear_control.ensures
+
+pub returns-in-7 : goal.returns-in-7
+unfolding happening
+returns-in-7 c = rw (c.in-7.is, ← clear-bit 15) c.clear_control-in-7.ensures
+
+pub returns-in_default : goal.returns-in_default
+unfolding happening
+returns-in_default c = rw (ne_eqb _ 1 c.in_default.rest.0.0.0.0.0.0.1, ne_eqb _ 2 c.in_default.rest.0.0.0.0.0.1, ne_eqb _ 3 c.in_default.rest.0.0.0.0.1, ne_eqb _ 4 c.in_default.rest.0.0.0.1, ne_eqb _ 5 c.in_default.rest.0.0.1, ne_eqb _ 6 c.in_default.rest.0.1, ne_eqb _ 7 c.in_default.rest.1)

@@ -1,0 +1,8 @@
+-- The register takes the merged word.
+use Rattle.phy.specs.Registers.{write_ordinary}
+use borrow.Author.Rules.{rules}
+use Rattle.phy.proofs.Phy.write_ordinary.Goals as goal
+
+pub returns : goal.returns
+unfolding write_ordinary
+returns c = rw c.merged.ensures

@@ -1,0 +1,8 @@
+-- An own write, as `stores` says.
+use Rattle.phy.specs.Own.{stores}
+use borrow.Author.Rules.{rules}
+use Rattle.phy.proofs.own.Own.stores.Goals as goal
+
+pub returns : goal.returns
+unfolding stores
+returns c = c.is_own.ensures
