@@ -1,5 +1,6 @@
 -- The bits seen before the clock say whether it ends a header or a frame.
 use borrow.Author.Rules.{rules}
+use native.Mathlib.Omega.{arith}
 use borrow.Author.Tests.{ne_eqb}
 use native.Mathlib.Nat.{div-one}
 use Rattle.phy.specs.Clock.{acts}
@@ -15,4 +16,4 @@ returns-in-31 c = rw (c.in-31.is, ← c.of-header.ensures, ← c.after_frame-aft
 
 pub returns-in_default : goal.returns-in_default
 unfolding acts
-returns-in_default c = rw (ne_eqb _ 13 c.in_default.rest.0.1, ne_eqb _ 31 c.in_default.rest.1)
+returns-in_default c = rw (ne_eqb c.args.seen 13 (omega arith), ne_eqb c.args.seen 31 (omega arith))

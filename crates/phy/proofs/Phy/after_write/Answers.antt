@@ -1,5 +1,6 @@
 -- Where the register is there and no reset is on, its own rule; else nothing.
 use mathlib.Core.Bool.{not}
+use native.Mathlib.Omega.{arith}
 use borrow.Author.Tests.{eq-eqb, ne_eqb}
 use Rattle.phy.specs.Registers.{after_write, write_by}
 use Rattle.phy.proofs.Implemented.{implemented-below}
@@ -21,7 +22,7 @@ returns-in-1 c = rw (← c.implements.ensures, ← c.in_reset.ensures, c.if-impl
 
 pub returns-in_default : goal.returns-in_default
 unfolding after_write write_by
-returns-in_default c = rw (← c.implements.ensures, ← c.in_reset.ensures, c.if-implements-in_reset.true, ne_eqb _ 0 c.in_default.rest.0.1, ne_eqb _ 1 c.in_default.rest.1) c.write_ordinary.ensures
+returns-in_default c = rw (← c.implements.ensures, ← c.in_reset.ensures, c.if-implements-in_reset.true, ne_eqb c.args.register 0 (omega arith), ne_eqb c.args.register 1 (omega arith)) c.write_ordinary.ensures
 
 pub returns-else-implements-in_reset : goal.returns-else-implements-in_reset
 unfolding after_write

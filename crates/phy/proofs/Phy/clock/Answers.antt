@@ -23,7 +23,6 @@ returns c =
     let self = c.args.self in
     let level = c.args.level in
     let next = c.follow-next.ensures ∙ ap (λ (n : ℕ). follow n level self.follower) c.enough.ensures in
-    let now = c.follower-1.given in
     c.with_line-2.ensures
-    ∙ ap₂ with_follower next (c.acts-self.ensures ∙ ap (λ (b : ℕ). acts now.0.0 b self) c.one_more.ensures)
-    ∙ sym (clock-by level self (Inside now.0.0 now.0.1.0) now.1)
+    ∙ ap₂ with_follower next (c.acts-self.ensures ∙ ap (λ (b : ℕ). acts c.in-Inside.seen b self) c.one_more.ensures)
+    ∙ sym (clock-by level self (Inside c.in-Inside.seen c.in-Inside.bits) c.in-Inside.is)

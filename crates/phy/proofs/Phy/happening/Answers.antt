@@ -1,6 +1,7 @@
 -- Each number has its own line; no other number changes anything.
 use Rattle.phy.specs.Fields.{with_link}
 use mathlib.Core.Path.{ap, ◌∙◌}
+use native.Mathlib.Omega.{arith}
 use borrow.Author.Tests.{ne_eqb}
 use Rattle.phy.specs.Events.{happening}
 use Rattle.phy.proofs.Words.{or-bit, clear-bit}
@@ -37,4 +38,4 @@ returns-in-7 c = rw (c.in-7.is, ← clear-bit 15) c.clear_control-in-7.ensures
 
 pub returns-in_default : goal.returns-in_default
 unfolding happening
-returns-in_default c = rw (ne_eqb _ 1 c.in_default.rest.0.0.0.0.0.0.1, ne_eqb _ 2 c.in_default.rest.0.0.0.0.0.1, ne_eqb _ 3 c.in_default.rest.0.0.0.0.1, ne_eqb _ 4 c.in_default.rest.0.0.0.1, ne_eqb _ 5 c.in_default.rest.0.0.1, ne_eqb _ 6 c.in_default.rest.0.1, ne_eqb _ 7 c.in_default.rest.1)
+returns-in_default c = rw (ne_eqb c.args.code 1 (omega arith), ne_eqb c.args.code 2 (omega arith), ne_eqb c.args.code 3 (omega arith), ne_eqb c.args.code 4 (omega arith), ne_eqb c.args.code 5 (omega arith), ne_eqb c.args.code 6 (omega arith), ne_eqb c.args.code 7 (omega arith))

@@ -7,4 +7,4 @@ use Rattle.phy.proofs.Phy.in_reset.Goals as goal
 
 pub returns : goal.returns
 unfolding in_reset
-returns c = has-bit 15 (register_of 0 c.args.t1)
+returns c = has-bit 15 (register_of 0 c.args.self)

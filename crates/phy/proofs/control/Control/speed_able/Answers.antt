@@ -15,4 +15,4 @@ pub returns-in-64 : goal.returns-in-64
 returns-in-64 c = let asked = speed-bits c.args.word 1 0 (omega arith) (omega arith) c.in-64.is in rw (asked.0, asked.1) c.able_1000.ensures
 
 pub returns-in_default : goal.returns-in_default
-returns-in_default c = let asked = speed-eleven c.args.word c.in_default.rest.0.0.1 c.in_default.rest.0.1 c.in_default.rest.1 in rw (asked.0, asked.1)
+returns-in_default c = let asked = speed-eleven c.args.word (omega arith) (omega arith) (omega arith) in rw (asked.0, asked.1)

@@ -10,32 +10,20 @@ returns-in_default c = sym (drives-hunting _ _ _ _ c.in_default.is)
 
 pub returns-then-seen-lt-BEFORE_ANSWER : goal.returns-then-seen-lt-BEFORE_ANSWER
 returns-then-seen-lt-BEFORE_ANSWER c =
-    let now = c.follower-1.given in
-    let seen = now.0.0 in
-    let bits = now.0.1.0 in
-    sym (drives-early _ _ _ seen bits now.1 c.if-seen-lt-BEFORE_ANSWER.true)
+    sym (drives-early _ _ _ c.in-Inside.seen c.in-Inside.bits c.in-Inside.is c.if-seen-lt-BEFORE_ANSWER.true)
 
 pub returns-then-seen-gt-MOST_SEEN : goal.returns-then-seen-gt-MOST_SEEN
 returns-then-seen-gt-MOST_SEEN c =
-    let now = c.follower-1.given in
-    let seen = now.0.0 in
-    let bits = now.0.1.0 in
-    sym (drives-late _ _ _ seen bits now.1 c.if-seen-gt-MOST_SEEN.true)
+    sym (drives-late _ _ _ c.in-Inside.seen c.in-Inside.bits c.in-Inside.is c.if-seen-gt-MOST_SEEN.true)
 
 pub returns-then-answers : goal.returns-then-answers
 returns-then-answers c =
     let self = c.args.self in
-    let now = c.follower-1.given in
-    let seen = now.0.0 in
-    let bits = now.0.1.0 in
     let own = sym (c.answers.ensures ∙ ap (λ h. answers h self) c.of-header.ensures) ∙ c.if-answers.true in
-    c.answer_bit.ensures ∙ sym (drives-own _ _ _ seen bits now.1 own)
+    c.answer_bit.ensures ∙ sym (drives-own _ _ _ c.in-Inside.seen c.in-Inside.bits c.in-Inside.is own)
 
 pub returns-else-answers : goal.returns-else-answers
 returns-else-answers c =
     let self = c.args.self in
-    let now = c.follower-1.given in
-    let seen = now.0.0 in
-    let bits = now.0.1.0 in
     let other = sym (c.answers.ensures ∙ ap (λ h. answers h self) c.of-header.ensures) ∙ c.if-answers.false in
-    sym (drives-other _ _ _ seen bits now.1 other)
+    sym (drives-other _ _ _ c.in-Inside.seen c.in-Inside.bits c.in-Inside.is other)
