@@ -1,5 +1,4 @@
 -- The bits seen before the clock say whether it ends a header or a frame.
-use borrow.Author.Rules.{rules}
 use native.Mathlib.Omega.{arith}
 use borrow.Author.Tests.{ne_eqb}
 use native.Mathlib.Nat.{div-one}

@@ -1,6 +1,5 @@
 -- An own write is stored, all else does nothing.
 use Rattle.phy.specs.Clock.{after_frame}
-use borrow.Author.Rules.{rules}
 use Rattle.phy.proofs.Phy.after_frame.Goals as goal
 
 pub returns-then-stores : goal.returns-then-stores

@@ -1,6 +1,5 @@
 -- An own read of an implemented register has its effect, all else none.
 use Rattle.phy.specs.Clock.{after_header}
-use borrow.Author.Rules.{rules}
 use Rattle.phy.proofs.Phy.after_header.Goals as goal
 
 pub returns-then-answers : goal.returns-then-answers

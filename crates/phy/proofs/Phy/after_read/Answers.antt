@@ -1,7 +1,6 @@
 -- A read of register 1 holds the link anew; no other read has an effect.
 use borrow.Author.Tests.{eq-eqb, ne_eqb}
 use Rattle.phy.specs.Registers.{after_read, read_status}
-use borrow.Author.Rules.{rules}
 use Rattle.phy.proofs.Phy.after_read.Goals as goal
 
 pub returns-then-register-eq-REGISTER : goal.returns-then-register-eq-REGISTER

@@ -4,7 +4,6 @@ use native.Mathlib.Omega.{arith}
 use borrow.Author.Tests.{eq-eqb, ne_eqb}
 use Rattle.phy.specs.Registers.{after_write, write_by}
 use Rattle.phy.proofs.Implemented.{implemented-below}
-use borrow.Author.Rules.{rules}
 use Rattle.phy.proofs.Phy.after_write.Goals as goal
 
 pub write_ordinary-requires : goal.write_ordinary-requires

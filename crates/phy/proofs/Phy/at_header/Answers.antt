@@ -1,5 +1,4 @@
 -- An answered read captures the word as it was before its effect.
-use borrow.Author.Rules.{rules}
 use Rattle.phy.specs.Clock.{at_header}
 use Rattle.phy.proofs.Phy.at_header.Goals as goal
 

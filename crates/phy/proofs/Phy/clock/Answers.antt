@@ -1,5 +1,4 @@
 -- The follower moves by the level, and what else the clock does goes by the bits seen.
-use borrow.Author.Rules.{rules}
 use mathlib.Core.Path.{sym, ap, ap₂, ◌∙◌}
 use Prim.Native.Nat.{ℕ}
 use Rattle.wire.specs.declared.Follower.TheVariants.{Hunting, Inside}

@@ -1,7 +1,6 @@
 -- Bits 0.12 and 0.9 decide.
 use Rattle.phy.specs.Events.{completes}
 use Rattle.phy.proofs.Words.{one-true, one-false, or-bit}
-use borrow.Author.Rules.{rules}
 use Rattle.phy.proofs.Phy.complete.Goals as goal
 
 pub returns-then-control-eq0 : goal.returns-then-control-eq0

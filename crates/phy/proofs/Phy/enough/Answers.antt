@@ -1,7 +1,6 @@
 -- Bit 1.6 decides.
 use Rattle.phy.specs.Clock.{enough}
 use Rattle.phy.proofs.Words.{one-true, one-false}
-use borrow.Author.Rules.{rules}
 use Rattle.phy.proofs.Phy.enough.Goals as goal
 
 pub returns-then-self-ne0 : goal.returns-then-self-ne0

@@ -1,6 +1,5 @@
 -- In reset only 7 acts.
 use Rattle.phy.specs.Events.{event}
-use borrow.Author.Rules.{rules}
 use Rattle.phy.proofs.Phy.event.Goals as goal
 
 pub returns-then-in_reset-code : goal.returns-then-in_reset-code

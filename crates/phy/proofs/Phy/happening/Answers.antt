@@ -5,7 +5,6 @@ use native.Mathlib.Omega.{arith}
 use borrow.Author.Tests.{ne_eqb}
 use Rattle.phy.specs.Events.{happening}
 use Rattle.phy.proofs.Words.{or-bit, clear-bit}
-use borrow.Author.Rules.{rules}
 use Rattle.phy.proofs.Phy.happening.Goals as goal
 
 pub returns-in-1 : goal.returns-in-1

@@ -2,7 +2,6 @@
 use Rattle.phy.specs.Fields.{register_of}
 use Rattle.phy.specs.Registers.{in_reset}
 use Rattle.phy.proofs.Words.{has-bit}
-use borrow.Author.Rules.{rules}
 use Rattle.phy.proofs.Phy.in_reset.Goals as goal
 
 pub returns : goal.returns

@@ -1,6 +1,5 @@
 -- Masked bits leave and the word's come, bit by bit.
 use borrow.Author.Rules.{rules}
-use lib.Bits.{and_le_l}
 use Rattle.phy.specs.Registers.{masked}
 use Rattle.phy.proofs.Words.{merge-word, picked-lt}
 use Rattle.phy.proofs.Phy.merged.Goals as goal

@@ -1,7 +1,6 @@
 -- Bit 15 resets; else registers 0 and 1 take what their rules leave.
 use Rattle.phy.specs.Control.{write_control}
 use Rattle.phy.proofs.Words.{one-true, one-false}
-use borrow.Author.Rules.{rules}
 use Rattle.phy.proofs.Phy.write_control.Goals as goal
 
 pub returns-then-word-ne0 : goal.returns-then-word-ne0

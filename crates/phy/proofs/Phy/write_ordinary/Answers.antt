@@ -1,6 +1,5 @@
 -- The register takes the merged word.
 use Rattle.phy.specs.Registers.{write_ordinary}
-use borrow.Author.Rules.{rules}
 use Rattle.phy.proofs.Phy.write_ordinary.Goals as goal
 
 pub returns : goal.returns

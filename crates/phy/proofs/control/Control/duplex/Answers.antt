@@ -2,7 +2,6 @@
 use Rattle.phy.proofs.NewBits.{duplex-stored, duplex-fixed}
 use Rattle.phy.specs.Control.{new_bit8}
 use Rattle.phy.proofs.Words.{and-bit}
-use borrow.Author.Rules.{rules}
 use Rattle.phy.proofs.control.Control.duplex.Goals as goal
 
 pub returns-then-full-half : goal.returns-then-full-half

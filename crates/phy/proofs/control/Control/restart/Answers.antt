@@ -4,7 +4,6 @@ use native.Mathlib.Omega.{arith}
 use borrow.Author.Tests.{eq-eqb, ne_eqb}
 use Rattle.phy.specs.Control.{new_bit9, new_bit12}
 use Rattle.phy.proofs.Words.{and-bit, one-true, one-false}
-use borrow.Author.Rules.{rules}
 use Rattle.phy.proofs.control.Control.restart.Goals as goal
 
 pub returns-then-enable-eq0 : goal.returns-then-enable-eq0

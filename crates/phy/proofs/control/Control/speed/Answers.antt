@@ -3,7 +3,6 @@ use mathlib.Core.List.{[], ◌∷◌}
 use native.Mathlib.Omega.{arith}
 use Rattle.phy.specs.Control.{speed_from}
 use Rattle.phy.proofs.Words.{and-mask-of}
-use borrow.Author.Rules.{rules}
 use Rattle.phy.proofs.control.Control.speed.Goals as goal
 
 pub returns-then-speed_able : goal.returns-then-speed_able

@@ -2,7 +2,6 @@
 use Rattle.phy.proofs.NewBits.{speed-eleven}
 use native.Mathlib.Omega.{arith}
 use Rattle.phy.proofs.NewBits.{speed-bits}
-use borrow.Author.Rules.{rules}
 use Rattle.phy.proofs.control.Control.speed_able.Goals as goal
 
 pub returns-in-0 : goal.returns-in-0

@@ -1,9 +1,7 @@
 -- 1.5 clears where bit 12 stays zero or 9 is written one.
-use borrow.Author.Rules.{rules}
 use mathlib.Core.Path.{◌≡◌}
 use native.Mathlib.Omega.{arith}
 use borrow.Author.Tests.{eq-eqb, ne_eqb}
-use lib.Bits.{and_le_l}
 use Rattle.phy.specs.Control.{new_bit12, new_status}
 use Rattle.phy.proofs.Words.{clear-bit, one-true, one-false}
 use Rattle.phy.proofs.control.Control.status_after.Goals as goal

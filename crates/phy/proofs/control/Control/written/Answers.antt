@@ -1,7 +1,6 @@
 -- Each part is its bits' values, and the parts are apart.
 use Rattle.phy.proofs.NewBits.{control-parts}
 use native.Mathlib.Omega.{arith}
-use borrow.Author.Rules.{rules}
 use Rattle.phy.proofs.control.Control.written.Goals as goal
 
 pub overflow_add-result-2 : goal.overflow_add-result-2

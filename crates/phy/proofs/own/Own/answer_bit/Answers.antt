@@ -2,7 +2,6 @@
 use Prim.Native.Nat.{◌≤◌}
 use borrow.Author.Tests.{ne_eqb, le-leb}
 use native.Mathlib.Omega.{arith}
-use borrow.Author.Rules.{rules}
 use Rattle.wire.specs.Follower.{answering}
 use Rattle.phy.proofs.own.Own.answer_bit.Goals as goal
 

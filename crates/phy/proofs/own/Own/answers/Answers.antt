@@ -1,6 +1,5 @@
 -- The code asks what `answers` asks, in its order.
 use Rattle.phy.specs.Own.{answers}
-use borrow.Author.Rules.{rules}
 use Rattle.phy.proofs.own.Own.answers.Goals as goal
 
 pub returns : goal.returns

@@ -2,7 +2,6 @@
 use Rattle.phy.specs.Own.{answers}
 use Rattle.phy.proofs.Clocks.{drives-hunting, drives-other, drives-own, drives-early, drives-late}
 use mathlib.Core.Path.{sym, ap, ◌∙◌}
-use borrow.Author.Rules.{rules}
 use Rattle.phy.proofs.own.Own.drives.Goals as goal
 
 pub returns-in_default : goal.returns-in_default

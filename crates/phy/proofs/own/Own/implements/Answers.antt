@@ -1,7 +1,6 @@
 -- A register past the last is none; else its bit of the mask says.
 use borrow.Author.Tests.{lt-ltb, le-ltb}
 use Rattle.phy.specs.Own.{implements}
-use borrow.Author.Rules.{rules}
 use Rattle.phy.proofs.own.Own.implements.Goals as goal
 
 pub returns-then-register-ge-REGISTERS : goal.returns-then-register-ge-REGISTERS

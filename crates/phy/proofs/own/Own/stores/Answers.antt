@@ -1,6 +1,5 @@
 -- An own write, as `stores` says.
 use Rattle.phy.specs.Own.{stores}
-use borrow.Author.Rules.{rules}
 use Rattle.phy.proofs.own.Own.stores.Goals as goal
 
 pub returns : goal.returns

@@ -1,5 +1,4 @@
 -- Each mask of one bit clears or sets that bit.
-use lib.Bits.{and_le_l}
 use Rattle.phy.proofs.Words.{clear-bit, or-bit}
 use Rattle.phy.proofs.status.Status.read.Goals as goal
 
