@@ -16,6 +16,7 @@ use crate::script::Word;
 use crate::text;
 use between::Outcome;
 use board::Board;
+use std::io;
 
 // The first bytes of a buffer; all of it where it has fewer.
 fn first(buffer: &[u8], n: u32) -> &[u8] {
@@ -26,89 +27,125 @@ fn first(buffer: &[u8], n: u32) -> &[u8] {
     buffer
 }
 
-fn translate(word: Word, list: &[u8], steps: &mut [u8]) {
+fn translate(rt: &impl Print, word: Word, list: &[u8], steps: &mut [u8]) -> io::Result<()> {
     let room = word.b as usize;
     if room <= steps.len() {
-        text::answer(frame::translate(first(list, word.a), &mut steps[..room]));
+        let verdict = frame::translate(first(list, word.a), &mut steps[..room]);
+        text::answer(rt, verdict)?;
     }
+    Ok(())
 }
 
-fn decode(word: Word, list: &[u8], log: &[u8], answers: &mut [u8]) {
+fn decode(
+    rt: &impl Print,
+    word: Word,
+    list: &[u8],
+    log: &[u8],
+    answers: &mut [u8],
+) -> io::Result<()> {
     let room = word.c as usize;
     if room <= answers.len() {
-        text::answer(frame::decode(
+        let verdict = frame::decode(
             first(list, word.a),
             first(log, word.b),
             &mut answers[..room],
-        ));
+        );
+        text::answer(rt, verdict)?;
     }
+    Ok(())
 }
 
 // A capture has a byte for each clock as the steps do, so it is made in their buffer.
-fn listen(word: Word, levels: &[u8], answers: &mut [u8]) {
+fn listen(rt: &impl Print, word: Word, levels: &[u8], answers: &mut [u8]) -> io::Result<()> {
     let room = word.b as usize;
     if room <= answers.len() {
-        text::answer(listener::listen(first(levels, word.a), &mut answers[..room]));
+        let verdict = listener::listen(first(levels, word.a), &mut answers[..room]);
+        text::answer(rt, verdict)?;
     }
+    Ok(())
 }
 
-fn vcd(word: Word, log: &[u8], output: &mut [u8]) {
+fn vcd(rt: &impl Print, word: Word, log: &[u8], output: &mut [u8]) -> io::Result<()> {
     let room = word.b as usize;
     if room <= output.len() {
-        text::answer(waveform::write_vcd(first(log, word.a), &mut output[..room]));
+        let verdict = waveform::write_vcd(first(log, word.a), &mut output[..room]);
+        text::answer(rt, verdict)?;
     }
+    Ok(())
 }
 
 // A text read back gives a byte for each clock as the steps have, so it goes to their buffer.
-fn interpret(word: Word, text: &[u8], flags: &mut [u8]) {
+fn interpret(rt: &impl Print, word: Word, text: &[u8], flags: &mut [u8]) -> io::Result<()> {
     let room = word.b as usize;
     if room <= flags.len() {
-        text::answer(waveform::read_vcd(first(text, word.a), &mut flags[..room]));
+        let verdict = waveform::read_vcd(first(text, word.a), &mut flags[..room]);
+        text::answer(rt, verdict)?;
     }
+    Ok(())
 }
 
 pub(crate) fn frames(
+    rt: &impl Print,
     word: Word,
     list: &List,
     steps: &mut Steps,
     log: &Log,
     answers: &mut Answers,
     text: &mut Text,
-) {
+) -> io::Result<()> {
     let letter = word.letter;
     match letter {
-        b'T' => translate(word, list, steps),
-        b'D' => decode(word, list, log, answers),
-        b'B' => listen(word, steps, answers),
-        b'V' => vcd(word, log, text),
-        b'I' => interpret(word, text, steps),
-        b'M' => text::number(frame::log_part(first(log, word.a), word.b as usize).len()),
-        _ => {}
+        b'T' => translate(rt, word, list, steps),
+        b'D' => decode(rt, word, list, log, answers),
+        b'B' => listen(rt, word, steps, answers),
+        b'V' => vcd(rt, word, log, text),
+        b'I' => interpret(rt, word, text, steps),
+        b'M' => {
+            let part = frame::log_part(first(log, word.a), word.b as usize);
+            text::number(rt, part.len())
+        }
+        _ => Ok(()),
     }
 }
 
-pub(crate) fn boards(board: Board, word: Word, file: &File, events: &Events) {
+pub(crate) fn boards(
+    rt: &impl Print,
+    board: Board,
+    word: Word,
+    file: &File,
+    events: &Events,
+) -> io::Result<()> {
     let letter = word.letter;
     match letter {
         b'L' => {
             let loaded = board::load(first(file, word.a));
             let verdict = loaded.verdict;
-            text::answer(verdict);
+            text::answer(rt, verdict)
         }
-        b'C' => text::answer(board::check(board)),
-        b'E' => text::answer(board::check_events(board, first(events, word.a), word.b as usize)),
-        _ => {}
+        b'C' => text::answer(rt, board::check(board)),
+        b'E' => {
+            let verdict = board::check_events(board, first(events, word.a), word.b as usize);
+            text::answer(rt, verdict)
+        }
+        _ => Ok(()),
     }
 }
 
 // What a machine answers is printed, and its board goes on.
-fn told(outcome: Outcome) -> Board {
+fn told(rt: &impl Print, outcome: Outcome) -> io::Result<Board> {
     let verdict = outcome.verdict;
-    text::answer(verdict);
-    outcome.board
+    text::answer(rt, verdict)?;
+    Ok(outcome.board)
 }
 
-fn run(board: Board, word: Word, steps: &[u8], events: &[u8], log: &mut [u8]) -> Board {
+fn run(
+    rt: &impl Print,
+    board: Board,
+    word: Word,
+    steps: &[u8],
+    events: &[u8],
+    log: &mut [u8],
+) -> io::Result<Board> {
     let room = word.b as usize;
     if room <= log.len() {
         let outcome = wire_machine::run(
@@ -117,12 +154,19 @@ fn run(board: Board, word: Word, steps: &[u8], events: &[u8], log: &mut [u8]) ->
             first(events, word.c),
             &mut log[..room],
         );
-        return told(outcome);
+        return told(rt, outcome);
     }
-    board
+    Ok(board)
 }
 
-fn plain(board: Board, word: Word, list: &[u8], events: &[u8], answers: &mut [u8]) -> Board {
+fn plain(
+    rt: &impl Print,
+    board: Board,
+    word: Word,
+    list: &[u8],
+    events: &[u8],
+    answers: &mut [u8],
+) -> io::Result<Board> {
     let room = word.b as usize;
     if room <= answers.len() {
         let outcome = plain_machine::plain(
@@ -131,13 +175,14 @@ fn plain(board: Board, word: Word, list: &[u8], events: &[u8], answers: &mut [u8
             first(events, word.c),
             &mut answers[..room],
         );
-        return told(outcome);
+        return told(rt, outcome);
     }
-    board
+    Ok(board)
 }
 
 // The board that a machine hands back; of any other word the board itself.
 pub(crate) fn machines(
+    rt: &impl Print,
     board: Board,
     word: Word,
     list: &List,
@@ -145,11 +190,11 @@ pub(crate) fn machines(
     events: &Events,
     log: &mut Log,
     answers: &mut Answers,
-) -> Board {
+) -> io::Result<Board> {
     let letter = word.letter;
     match letter {
-        b'R' => run(board, word, steps, events, log),
-        b'P' => plain(board, word, list, events, answers),
-        _ => board,
+        b'R' => run(rt, board, word, steps, events, log),
+        b'P' => plain(rt, board, word, list, events, answers),
+        _ => Ok(board),
     }
 }

@@ -3,6 +3,8 @@
 // 01. The cases are data and not code, so that a case more costs nothing to prove.
 #![tactic(auto)]
 
+ghost use Rattle.std.specs.Prelude.{◌≡◌, ◌≤◌, length, take};
+
 mod buffers;
 mod calls;
 mod changes;
@@ -13,9 +15,12 @@ mod text;
 use board::Board;
 use buffers::{Answers, Events, File, List, Log, Steps, Text};
 use script::Word;
+use std::io;
+use std::io::Read;
 
 // What a word of a case does, to the buffers and to the board. A misspelt one shows as a question mark.
 fn obey(
+    rt: &impl Print,
     board: Board,
     word: Word,
     file: &mut File,
@@ -25,37 +30,39 @@ fn obey(
     log: &mut Log,
     answers: &mut Answers,
     text: &mut Text,
-) -> Board {
+) -> io::Result<Board> {
     let letter = word.letter;
     match letter {
         b'f' | b'l' | b'e' | b'o' | b's' | b't' => {
             buffers::write(word, file, list, steps, events, log);
-            board
+            Ok(board)
         }
         b'T' | b'D' | b'B' | b'M' | b'V' | b'I' => {
-            calls::frames(word, list, steps, log, answers, text);
-            board
+            calls::frames(rt, word, list, steps, log, answers, text)?;
+            Ok(board)
         }
         b'L' | b'C' | b'E' => {
-            calls::boards(board, word, file, events);
-            board
+            calls::boards(rt, board, word, file, events)?;
+            Ok(board)
         }
-        b'R' | b'P' => calls::machines(board, word, list, steps, events, log, answers),
+        b'R' | b'P' => calls::machines(rt, board, word, list, steps, events, log, answers),
         b',' | b'A' | b'H' | b'W' | b'S' | b'G' | b'F' | b'O' => {
-            show::all(board, word, steps, log, answers, text);
-            board
+            show::all(rt, board, word, steps, log, answers, text)?;
+            Ok(board)
         }
-        b'p' | b'n' => changes::whole(board, word, file),
-        b'a' | b'i' | b'd' | b'm' | b'r' | b'u' | b'h' | b'w' | b'c' => changes::phy(board, word),
+        b'p' | b'n' => Ok(changes::whole(board, word, file)),
+        b'a' | b'i' | b'd' | b'm' | b'r' | b'u' | b'h' | b'w' | b'c' => {
+            Ok(changes::phy(board, word))
+        }
         _ => {
-            text::words(b" ?");
-            board
+            text::words(rt, b" ?")?;
+            Ok(board)
         }
     }
 }
 
 // Every case starts with the same buffers and with no PHYs.
-fn try_words(line: &[u8], from: usize) {
+fn try_words(rt: &impl Print, line: &[u8], from: usize) -> io::Result<()> {
     let mut file = buffers::file();
     let mut list = buffers::list();
     let mut events = buffers::events();
@@ -69,9 +76,10 @@ fn try_words(line: &[u8], from: usize) {
         let word = script::word_at(line, at);
         let next = word.next;
         if next <= at {
-            return;
+            return Ok(());
         }
         let after = obey(
+            rt,
             board,
             word,
             &mut file,
@@ -81,40 +89,70 @@ fn try_words(line: &[u8], from: usize) {
             &mut log,
             &mut answers,
             &mut text,
-        );
+        )?;
         board = after;
         at = next;
     }
+    Ok(())
 }
 
 // A line without a colon is no case.
-fn try_line(line: &[u8]) {
+fn try_line(rt: &impl Print, line: &[u8]) -> io::Result<()> {
     let colon = script::end_of(line, 0, b':');
     if colon < line.len() {
         let words = colon + 1;
-        text::words(&line[..words]);
-        try_words(line, words);
-        text::words(b"\n");
+        text::words(rt, &line[..words])?;
+        try_words(rt, line, words)?;
+        text::words(rt, b"\n")?;
     }
+    Ok(())
 }
 
-fn try_lines(cases: &[u8]) {
+fn try_lines(rt: &impl Print, cases: &[u8]) -> io::Result<()> {
     let mut at = 0;
     while at < cases.len() {
         let end = script::end_of(cases, at, b'\n');
         if end < at {
-            return;
+            return Ok(());
         }
         if cases.len() < end {
-            return;
+            return Ok(());
         }
-        try_line(&cases[at..end]);
+        try_line(rt, &cases[at..end])?;
         at = end + 1;
     }
+    Ok(())
 }
 
-fn main() {
-    let mut input = io::large_buffer();
-    let count = io::read_full(libc::STDIN_FILENO, &mut input);
-    try_lines(&input[..count]);
+// More bytes than the cases have.
+const INPUT: usize = 65536;
+
+fn room_for_input() -> [u8; INPUT]
+    ensures { 65536 ≡ length result }
+{
+    [0; INPUT]
+}
+
+// Reads until the buffer is full, the input ends or a read fails, and answers how many bytes it put at the start of the buffer.
+fn read_full<R: Read>(reader: &mut R, buffer: &mut [u8]) -> usize
+    ensures within { result ≤ length buffer.new }
+    ensures long { result ≡ length (take result buffer.new) }
+{
+    let mut done = 0;
+    while done < buffer.len() {
+        let Ok(more) = reader.read(&mut buffer[done..]) else {
+            return done;
+        };
+        if more == 0 {
+            return done;
+        }
+        done += more;
+    }
+    done
+}
+
+fn main(rt: HostRuntime) -> io::Result<()> {
+    let mut input = room_for_input();
+    let count = read_full(&mut rt.reader(), &mut input);
+    try_lines(&rt, &input[..count])
 }

@@ -13,50 +13,53 @@ use crate::script::Word;
 use crate::text;
 use board::Board;
 use frame::{Answer, Frame};
+use std::io;
 use verdict::byte_at;
 
-fn byte(buffer: &[u8], i: usize) {
-    text::number(byte_at(buffer, i) as usize);
+fn byte(rt: &impl Print, buffer: &[u8], i: usize) -> io::Result<()> {
+    text::number(rt, byte_at(buffer, i) as usize)
 }
 
 // The byte at one place of a buffer, and the word at another.
-fn byte_and_word(buffer: &[u8], at: usize, place: usize) {
-    byte(buffer, at);
-    text::four_digits(verdict::word_at(buffer, place) as usize);
+fn byte_and_word(rt: &impl Print, buffer: &[u8], at: usize, place: usize) -> io::Result<()> {
+    byte(rt, buffer, at)?;
+    text::four_digits(rt, verdict::word_at(buffer, place) as usize)
 }
 
-fn register(board: Board, word: Word) {
+fn register(rt: &impl Print, board: Board, word: Word) -> io::Result<()> {
     let place = word.a as usize;
     if place < Board::PLACES {
         let phy = board.phys[place];
-        text::four_digits(phy.word((word.b % 256) as u8) as usize);
+        return text::four_digits(rt, phy.word((word.b % 256) as u8) as usize);
     }
+    Ok(())
 }
 
 pub(crate) fn all(
+    rt: &impl Print,
     board: Board,
     word: Word,
     steps: &Steps,
     log: &Log,
     answers: &Answers,
     text: &Text,
-) {
+) -> io::Result<()> {
     let letter = word.letter;
     match letter {
-        b',' => text::words(b","),
+        b',' => text::words(rt, b","),
         b'A' => {
             let at = word.a as usize * Answer::BYTES;
-            byte_and_word(answers, at, at + 4);
+            byte_and_word(rt, answers, at, at + 4)
         }
         b'H' => {
             let at = word.a as usize * Frame::LOG_RECORD;
-            byte_and_word(log, at, at + 3);
+            byte_and_word(rt, log, at, at + 3)
         }
-        b'W' => register(board, word),
-        b'S' => byte(steps, word.a as usize),
-        b'G' => byte(answers, word.a as usize),
-        b'F' => byte(log, word.a as usize),
-        b'O' => byte(text, word.a as usize),
-        _ => {}
+        b'W' => register(rt, board, word),
+        b'S' => byte(rt, steps, word.a as usize),
+        b'G' => byte(rt, answers, word.a as usize),
+        b'F' => byte(rt, log, word.a as usize),
+        b'O' => byte(rt, text, word.a as usize),
+        _ => Ok(()),
     }
 }

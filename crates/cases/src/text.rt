@@ -1,28 +1,27 @@
 // What the cases print.
-use libc::STDOUT_FILENO;
+use std::io;
 use verdict::Verdict;
 
-pub(crate) fn words(text: &[u8]) {
-    io::write_all(STDOUT_FILENO, text);
+pub(crate) fn words(rt: &impl Print, text: &[u8]) -> io::Result<()> {
+    rt.write_all(text)
 }
 
-pub(crate) fn number(n: usize) {
-    words(b" ");
-    io::print_decimal(STDOUT_FILENO, n as u64);
+pub(crate) fn number(rt: &impl Print, n: usize) -> io::Result<()> {
+    print!(rt; " {n}")
 }
 
 // An answer: `done N` or `refused N at INDEX`.
-pub(crate) fn answer(verdict: Verdict) {
+pub(crate) fn answer(rt: &impl Print, verdict: Verdict) -> io::Result<()> {
     match verdict {
         Verdict::Done(n) => {
-            words(b" done");
-            number(n);
+            words(rt, b" done")?;
+            number(rt, n)
         }
         Verdict::Refused(refusal, index) => {
-            words(b" refused");
-            number(refusal as usize);
-            words(b" at");
-            number(index);
+            words(rt, b" refused")?;
+            number(rt, refusal as usize)?;
+            words(rt, b" at")?;
+            number(rt, index)
         }
     }
 }
@@ -38,7 +37,7 @@ fn hex_digit(n: u8) -> u8 {
 }
 
 // Four hexadecimal digits of a number below 65,536, in capitals.
-pub(crate) fn four_digits(n: usize) {
+pub(crate) fn four_digits(rt: &impl Print, n: usize) -> io::Result<()> {
     let digits = [
         b' ',
         hex_digit((n / 4096 % 16) as u8),
@@ -46,5 +45,5 @@ pub(crate) fn four_digits(n: usize) {
         hex_digit((n / 16 % 16) as u8),
         hex_digit((n % 16) as u8),
     ];
-    words(&digits);
+    words(rt, &digits)
 }

@@ -2,22 +2,22 @@
 // to 4,160 such bytes into answer records"). It takes such a capture on standard input, and prints a record a line, or one
 // refusal.
 use crate::{input, report};
-use libc::STDIN_FILENO;
 use listener::listen;
+use std::io;
 use verdict::Verdict;
 
 // There is room for every record, so that only the capture itself can be refused (`only-capture`).
-fn read_back(levels: &[u8]) {
+fn read_back(rt: &impl Print, levels: &[u8]) -> io::Result<()> {
     let mut answers = report::room_for_answers();
     let verdict = listen(levels, &mut answers);
     let Verdict::Done(size) = verdict else {
-        return report::refusal(verdict, b"capture");
+        return report::refusal(rt, verdict, b"capture");
     };
-    report::answers(&answers[..size]);
+    report::answers(rt, &answers[..size])
 }
 
-pub(crate) fn run() {
+pub(crate) fn run(rt: &(impl Input + Print)) -> io::Result<()> {
     let mut levels = input::room_for_capture();
-    let size = input::read(STDIN_FILENO, &mut levels, 1);
-    read_back(&levels[..size]);
+    let size = input::read(&mut rt.reader(), &mut levels, 1);
+    read_back(rt, &levels[..size])
 }

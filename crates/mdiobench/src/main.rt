@@ -12,7 +12,9 @@ ghost use Rattle.mdiobench.specs.Tray.{Passed};
 use agreement::exchange;
 use board::{Board, load};
 use frame::{Transaction, check_list};
-use libc::{STDERR_FILENO, STDIN_FILENO};
+use std::env::FillError;
+use std::io;
+use std::rt::{Env, Files};
 use verdict::Verdict;
 
 // What is asked of a tray.
@@ -23,70 +25,83 @@ enum Wanted {
 }
 
 // Board and list have passed, and there is room for every answer: only the events can be refused (`only-events`).
-fn answer(board: Board, list: &[u8], events: &[u8])
+fn answer(rt: &impl Print, board: Board, list: &[u8], events: &[u8]) -> io::Result<()>
     requires { Passed board list.now }
 {
     let mut answers = report::room_for_answers();
     let outcome = exchange(board, list, events, &mut answers);
     let verdict = outcome.verdict;
     let Verdict::Done(size) = verdict else {
-        return report::refusal(verdict, b"events");
+        return report::refusal(rt, verdict, b"events");
     };
-    report::answers(&answers[..size]);
+    report::answers(rt, &answers[..size])
 }
 
 // The files are checked in the order board, list, events.
-fn bench(board_file: &[u8], list: &[u8], events: &[u8], wanted: Wanted) {
+fn bench(
+    rt: &impl Print,
+    board_file: &[u8],
+    list: &[u8],
+    events: &[u8],
+    wanted: Wanted,
+) -> io::Result<()> {
     let loaded = load(board_file);
     let verdict = loaded.verdict;
     let Verdict::Done(_) = verdict else {
-        return report::refusal(verdict, b"board");
+        return report::refusal(rt, verdict, b"board");
     };
     let listed = check_list(list);
     let Verdict::Done(_) = listed else {
-        return report::refusal(listed, b"list");
+        return report::refusal(rt, listed, b"list");
     };
     match wanted {
-        Wanted::Answers => answer(loaded.board, list, events),
-        Wanted::Waveform => wave::show(loaded.board, list, events),
+        Wanted::Answers => answer(rt, loaded.board, list, events),
+        Wanted::Waveform => wave::show(rt, loaded.board, list, events),
     }
 }
 
 // Document 01: "The program takes the list on standard input, and `board.rec` and `events.rec` from its directory".
-fn tray(wanted: Wanted) {
+fn tray(rt: &(impl Files + Input + Print), wanted: Wanted) -> io::Result<()> {
     let mut board_file = input::room_for_board();
-    let board_bytes = input::read_file(b"board.rec", &mut board_file, Board::RECORD);
+    let board_bytes = input::read_file(rt, "board.rec", &mut board_file, Board::RECORD);
     let mut list = input::room_for_list();
-    let list_bytes = input::read(STDIN_FILENO, &mut list, Transaction::BYTES);
+    let list_bytes = input::read(&mut rt.reader(), &mut list, Transaction::BYTES);
     let mut events = input::room_for_events();
-    let event_bytes = input::read_file(b"events.rec", &mut events, Board::EVENT_RECORD);
+    let event_bytes = input::read_file(rt, "events.rec", &mut events, Board::EVENT_RECORD);
     bench(
+        rt,
         &board_file[..board_bytes],
         &list[..list_bytes],
         &events[..event_bytes],
         wanted,
-    );
+    )
 }
 
-// Whether the first argument is this word; one that is longer than any of them leaves an empty one.
-fn says(word: &[u8]) -> bool {
+// Whether there is an argument at an index; the program's name stands at 0.
+fn has_argument(rt: &impl Env, index: usize) -> bool {
+    !matches!(rt.arg(index, &mut []), Err(FillError::NotPresent))
+}
+
+// Whether the first argument is this word; one that is longer than any of them is none of them.
+fn says(rt: &impl Env, word: &[u8]) -> bool {
     let mut first = [0u8; 6];
-    let size = os::arg(1, &mut first);
-    check::same(&first[..size], word)
+    match rt.arg(1, &mut first) {
+        Ok(size) => &first[..size] == word,
+        Err(_) => false,
+    }
 }
 
-fn main() {
-    let words = os::arg_count();
-    if words < 2 {
-        return tray(Wanted::Answers);
+fn main(rt: HostRuntime) -> io::Result<()> {
+    if !has_argument(&rt, 1) {
+        return tray(&rt, Wanted::Answers);
     }
-    if words == 2 {
-        if says(b"vcd") {
-            return tray(Wanted::Waveform);
+    if !has_argument(&rt, 2) {
+        if says(&rt, b"vcd") {
+            return tray(&rt, Wanted::Waveform);
         }
-        if says(b"listen") {
-            return capture::run();
+        if says(&rt, b"listen") {
+            return capture::run(&rt);
         }
     }
-    io::write_all(STDERR_FILENO, b"usage: mdiobench [listen | vcd]\n");
+    rt.eprintln("usage: mdiobench [listen | vcd]")
 }

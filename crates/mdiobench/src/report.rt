@@ -6,8 +6,8 @@ ghost use Rattle.frame.specs.Answers.{answer_record};
 ghost use Rattle.mdiobench.specs.Line.{digit_of, letter_of, answer_at, after_ordinal};
 
 use frame::{Answer, Transaction};
-use libc::STDOUT_FILENO;
 use listener::Capture;
+use std::io;
 use verdict::{Verdict, byte_at, word_at};
 
 // Room for as many answers as a capture can give, one more than the longest list has.
@@ -80,27 +80,24 @@ fn after_ordinal(answer: Answer) -> [u8; 16]
 }
 
 // The lines of these answers.
-pub(crate) fn answers(records: &[u8]) {
+pub(crate) fn answers(rt: &impl Print, records: &[u8]) -> io::Result<()> {
     let count = records.len() / Answer::BYTES;
     let mut k = 0;
     while k < count {
         let line = after_ordinal(answer_at(records, k));
-        io::print_decimal(STDOUT_FILENO, (k + 1) as u64);
-        io::write_all(STDOUT_FILENO, &line);
+        rt.print(k + 1)?;
+        rt.write_all(&line)?;
         k += 1;
     }
+    Ok(())
 }
 
 // `refused N FILE INDEX`; nothing where nothing is refused.
-pub(crate) fn refusal(verdict: Verdict, file: &[u8]) {
+pub(crate) fn refusal(rt: &impl Print, verdict: Verdict, file: &[u8]) -> io::Result<()> {
     let Verdict::Refused(number, index) = verdict else {
-        return;
+        return Ok(());
     };
-    io::write_all(STDOUT_FILENO, b"refused ");
-    io::print_decimal(STDOUT_FILENO, number as u64);
-    io::write_all(STDOUT_FILENO, b" ");
-    io::write_all(STDOUT_FILENO, file);
-    io::write_all(STDOUT_FILENO, b" ");
-    io::print_decimal(STDOUT_FILENO, index as u64);
-    io::write_all(STDOUT_FILENO, b"\n");
+    print!(rt; "refused {number} ")?;
+    rt.write_all(file)?;
+    println!(rt; " {index}")
 }

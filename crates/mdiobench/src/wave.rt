@@ -11,7 +11,7 @@ use crate::report;
 use agreement::send;
 use board::Board;
 use frame::{Frame, Steps};
-use libc::STDOUT_FILENO;
+use std::io;
 use verdict::Verdict;
 use waveform::{Waveform, write_vcd};
 
@@ -46,13 +46,13 @@ fn draw(board: Board, list: &[u8], events: &[u8], text: &mut [u8]) -> Verdict
 }
 
 // Board and list have passed, and there is room for every text: only the events can be refused (`only-events-drawn`).
-pub(crate) fn show(board: Board, list: &[u8], events: &[u8])
+pub(crate) fn show(rt: &impl Print, board: Board, list: &[u8], events: &[u8]) -> io::Result<()>
     requires { Passed board list.now }
 {
     let mut text = room_for_text();
     let drawn = draw(board, list, events, &mut text);
     let Verdict::Done(size) = drawn else {
-        return report::refusal(drawn, b"events");
+        return report::refusal(rt, drawn, b"events");
     };
-    io::write_all(STDOUT_FILENO, &text[..size]);
+    rt.write_all(&text[..size])
 }
