@@ -4,7 +4,7 @@ use Prim.Native.Nat.{ℕ, ◌+◌, ◌-◌, ◌*◌, ◌/◌, ◌%◌, ◌≤◌
 use mathlib.Core.Path.{◌≡◌, sym, ap, ◌∙◌}
 use mathlib.Core.List.{List}
 use native.Mathlib.Omega.{arith}
-use native.Mathlib.Nat.{mod-lt, mul-mod_left, mul-div_cancel, le-div_iff_mul-le, add-mul, one-mul}
+use Rattle.std.proofs.Math.Nat.{mod-lt, mul-mod_left, mul-div_cancel, le-div_iff_mul-le, add-mul, one-mul}
 use native.Mathlib.Decide.{ℕ_discrete}
 use lib.ListN.{length, take}
 use lib.Seq.{length-take-le, take-length}
@@ -13,7 +13,11 @@ use borrow.Author.Tests.{eq-eqb, ne_eqb, lt-ltb}
 use Rattle.verdict.specs.declared.Verdict.TheVariants.{Refused}
 use Rattle.verdict.specs.Refusal.{wrong_length, too_many}
 use Rattle.verdict.specs.File.{records, file_verdict, bytes_verdict}
-use Rattle.mdiobench.specs.Input.{stand_in}
+use Rattle.mdiobench.specs.Input.{IsPrefixLen, stand_in}
+
+-- as many bytes as a buffer has, or fewer, are the length of its part of that length
+pub counts : (n : ℕ) (xs : List ℕ) → n ≤ length xs → IsPrefixLen n xs
+counts n xs within = (within, sym (length-take-le n xs within))
 
 -- what stands for an input is within the buffer
 pub stand-in-fits : (room size past : ℕ) → size ≤ room → past < size → stand_in room size past ≤ room
