@@ -28,8 +28,8 @@ zero_byte_at file k = byte_at file (k * board_record + 1)
 abbrev pub implemented_at : List ℕ → ℕ → ℕ
 implemented_at file k = word_at file (k * board_record + 2) * 65536 + word_at file (k * board_record + 4)
 
-abbrev pub field_own : List ℕ → ℕ → Own
-field_own file k = record { address = address_at file k; implemented = implemented_at file k }
+abbrev pub own_at : List ℕ → ℕ → Own
+own_at file k = record { address = address_at file k; implemented = implemented_at file k }
 
 -- 32 words from a place of the file on
 unfoldable pub words_at : List ℕ → ℕ → List ℕ
@@ -42,11 +42,11 @@ abbrev pub masks_at : List ℕ → ℕ → List ℕ
 masks_at file k = words_at file (k * board_record + 70)
 
 abbrev pub record_at : List ℕ → ℕ → PhyRecord
-record_at file k = record { own = field_own file k; defaults = defaults_at file k; masks = masks_at file k }
+record_at file k = record { own = own_at file k; defaults = defaults_at file k; masks = masks_at file k }
 
 -- the PHY of the record at index k: "A load gives hunting, 0 ones, link down, defaults."
 unfoldable pub phy_at : List ℕ → ℕ → Phy
-phy_at file k = fresh (field_own file k) (defaults_at file k) (masks_at file k)
+phy_at file k = fresh (own_at file k) (defaults_at file k) (masks_at file k)
 
 -- "an address already used by an earlier board record"
 unfoldable pub used_before : List ℕ → ℕ → Bool

@@ -19,6 +19,10 @@ use Rattle.board.proofs.Records.{good-event, bad-event, among-is}
 use borrow.Author.Rules.{rules}
 use Rattle.board.proofs.events.check_events.Given as goal
 
+-- what the checks find of a record where a table says which addresses are on the board
+abbrev pub fault_by : List Bool → List ℕ → ℕ → ℕ → ℕ
+fault_by there events last k = event_fault_as (get_or there (event_address events k) false) events last k
+
 abbrev pub invariant-loop-k : goal.invariant-loop-k
 invariant-loop-k l =
     (l.k ≤ l.count) × (l.before ≡ clock_before l.events l.k)

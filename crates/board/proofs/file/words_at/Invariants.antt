@@ -14,6 +14,13 @@ use Rattle.board.specs.Load.{words_at}
 use borrow.Author.Rules.{rules}
 use Rattle.board.proofs.file.words_at.Given as goal
 
+-- two bytes, low byte first
+abbrev pub pair_at : List ℕ → ℕ → ℕ
+pair_at file i = byte_at file i + byte_at file (i + 1) * 256
+
+abbrev pub Bytes : List ℕ → ℕ → Type 0
+Bytes file i = (byte_at file i < 256) × (byte_at file (i + 1) < 256)
+
 abbrev pub invariant-loop-r : goal.invariant-loop-r
 invariant-loop-r l =
     (l.r ≤ 32)

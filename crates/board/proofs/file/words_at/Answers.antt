@@ -1,0 +1,56 @@
+-- A loop puts the pairs of bytes, low byte first, and a loop turns each into its word.
+use mathlib.Core.Path.{◌≡◌, refl, ap, ◌∙◌}
+use mathlib.Core.List.{List, append-nil}
+use Prim.Native.Nat.{ℕ, suc, ◌+◌, ◌*◌, ◌/◌, ◌%◌, ◌≤◌, ◌<◌, ◌-◌}
+use native.Mathlib.Omega.{arith}
+use lib.ListN.{length, get_or, drop, replicate}
+use lib.Seq.{drop-cons, get_or_at}
+use Rattle.verdict.specs.Output.{tabulate}
+use Rattle.verdict.specs.File.{byte_at, word_at}
+use Rattle.verdict.proofs.Lists.{length-tabulate, get_or-tabulate}
+use Rattle.verdict.proofs.Outputs.{filled, fill}
+use borrow.Author.Count.{below_none, below_more}
+use Rattle.board.specs.Load.{words_at}
+use borrow.Author.Rules.{rules}
+use Rattle.board.proofs.file.words_at.Invariants.{pair_at, Bytes}
+use Rattle.board.proofs.file.words_at.Goals as goal
+
+-- what stands at a place that is not filled yet
+stands : (f : ℕ → ℕ) (out : List ℕ) (i d : ℕ) → i < length out → get_or (filled f out i) i d ≡ get_or out i d
+stands f out i d within = rw (drop-cons out i d within) (get_or_at (tabulate i f) (get_or out i d) (drop (suc i) out) d i (length-tabulate i f))
+
+pub loop-r-init : goal.loop-r-init
+unfolding tabulate
+loop-r-init c = (search rules, refl, below_none _)
+
+pub loop-r-preserved : goal.loop-r-preserved
+loop-r-preserved c =
+    let file = c.args.file.now in
+    let loop = c.loop-r in
+    let at = c.args.start + loop.r * 2 in
+    let here : Bytes file at = (omega (arith, c.type_inv.file at), omega (arith, c.type_inv.file (at + 1))) in
+    (search rules, fill _ _ loop.words loop.r _ (search rules) loop.invariant.1 refl, below_more _ loop.r loop.invariant.2 here)
+
+pub loop-i-init : goal.loop-i-init
+unfolding tabulate
+loop-i-init c =
+    let all : c.loop-r.r ≡ 32 = omega arith in
+    (search rules, (rw all at c.loop-r.invariant.1) ∙ append-nil _)
+
+pub loop-i-preserved : goal.loop-i-preserved
+loop-i-preserved c =
+    let file = c.args.file.now in
+    let loop = c.loop-i in
+    let at = c.args.start + loop.i * 2 in
+    let pair : get_or loop.words loop.i 0 ≡ pair_at file at =
+    ap (λ words. get_or words loop.i 0) loop.invariant.1
+    ∙ stands _ _ _ _ (rw length-tabulate (search rules))
+    ∙ get_or-tabulate 32 _ 0 _ (search rules) in
+    let pair-bytes : Bytes file at = c.loop-r.invariant.2 loop.i (search rules) in
+    (search rules, fill _ _ loop.words loop.i _ (rw length-tabulate (search rules)) loop.invariant.1 (omega (arith, pair, pair-bytes)))
+
+pub returns : goal.returns
+unfolding words_at tabulate
+returns c =
+    let all : c.loop-i.i ≡ 32 = omega arith in
+    (rw all at c.loop-i.invariant.1) ∙ append-nil _

@@ -1,0 +1,21 @@
+-- Each test is its clause of `control_right`.
+use lib.Bits.{and_mask}
+use Rattle.phy.proofs.Words.{has-bit, has-no-bit}
+use borrow.Author.Rules.{rules}
+use Rattle.board.proofs.sound.control_right.Goals as goal
+
+pub returns : goal.returns
+returns c =
+    rw (
+      c.speed_able-speed.ensures,
+      c.able_full-full.ensures,
+      c.able_half-half.ensures,
+      has-bit 12,
+      has-bit 3,
+      has-no-bit 9,
+      has-bit 8,
+      has-no-bit 8,
+      has-no-bit 5,
+      has-bit 7,
+      and_mask c.args.control 5,
+    )

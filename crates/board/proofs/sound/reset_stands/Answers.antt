@@ -1,0 +1,12 @@
+-- Not in reset nothing is asked; else each test is its part of `reset_stands`.
+use Rattle.phy.specs.Registers.{in_reset}
+use borrow.Author.Rules.{rules}
+use Rattle.board.proofs.sound.reset_stands.Goals as goal
+
+pub returns-then-not-in_reset : goal.returns-then-not-in_reset
+unfolding in_reset
+returns-then-not-in_reset c = rw (← c.in_reset.ensures, c.if-not-in_reset.true)
+
+pub returns : goal.returns
+unfolding in_reset
+returns c = rw (← c.in_reset.ensures, c.if-not-in_reset.false, c.stands_outside-stands.ensures, c.others_at_default.ensures)
