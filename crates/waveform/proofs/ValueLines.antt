@@ -103,8 +103,8 @@ module _ (text : List ℕ) (values clock : ℕ) (old : Signals) {l e c : Seen}
       ∙ sym (append_assoc (time_line clock) (value_lines clock old new) (drop c.behind text)))
 
 -- what is not told did not change, and the clock is not the first
-same_old : (first old new : Bool) → told first old new ≡ false → (first ≡ false) × (old ≡ new)
-same_old true old new e = absurd (true≢false e)
+same_old : (first old now : Bool) → told first old now ≡ false → (first ≡ false) × (old ≡ now)
+same_old true old now e = absurd (true≢false e)
 same_old false true true e = (refl, refl)
 same_old false true false e = absurd (true≢false e)
 same_old false false true e = absurd (true≢false e)

@@ -2,7 +2,7 @@
 use Prim.Native.Nat.{ℕ, ◌+◌, ◌≤◌, ◌<◌}
 use mathlib.Core.Path.{◌≡◌, ap, sym, ◌∙◌}
 use mathlib.Core.List.{List}
-use mathlib.Core.Bool.{Bool, true, false, not, not-not}
+use mathlib.Core.Bool.{Bool, true, false}
 use native.Mathlib.Omega.{arith}
 use lib.ListN.{length, drop}
 use lib.Dec.{eqb}
@@ -18,8 +18,8 @@ use Rattle.waveform.proofs.read.what_follows.Goals as goal
 use Rattle.waveform.proofs.read.what_follows.Goals.{then-first-2, else-first-2}
 
 -- whether the time line is there
-asked : (text : List ℕ) (at clock : ℕ) (line : List ℕ) (r b : Bool) → r ≡ starts_with line (drop at text) → line ≡ time_line clock → not r ≡ b → starts_with (time_line clock) (drop at text) ≡ not b
-asked text at clock line r b is same answer = ap (λ l. starts_with l (drop at text)) (sym same) ∙ sym is ∙ sym (not-not r) ∙ ap not answer
+asked : (text : List ℕ) (at clock : ℕ) (line : List ℕ) (r b : Bool) → r ≡ starts_with line (drop at text) → line ≡ time_line clock → r ≡ b → starts_with (time_line clock) (drop at text) ≡ b
+asked text at clock line r b is same answer = ap (λ l. starts_with l (drop at text)) (sym same) ∙ sym is ∙ answer
 
 -- what is seen behind it, where the text goes on
 module _ (text : List ℕ) (at clock : ℕ) (old : Signals) (size needs : ℕ) (seen : Shown)
@@ -62,7 +62,7 @@ pub returns-then-not-goes_on : goal.returns-then-not-goes_on
 unfolding next_in
 returns-then-not-goes_on c =
     let args = c.args in
-    rw (asked args.text.now args.at args.clock _ _ _ c.goes_on.ensures c.of-time.ensures.bytes c.if-not-goes_on.true, c.if-first.false)
+    rw (asked args.text.now args.at args.clock _ _ _ c.goes_on.ensures c.of-time.ensures.bytes c.if-not-goes_on.true, ne_eqb args.clock 1 c.if-first.false)
 
 pub returns-then-values-text : goal.returns-then-values-text
 unfolding next_in
@@ -84,7 +84,7 @@ returns-then-shown-values c =
     let args = c.args in
     let there = asked args.text.now args.at args.clock _ _ _ c.goes_on.ensures c.of-time.ensures.bytes c.if-not-goes_on.false in
     let enough : c.if-first-2.least ≡ least (eqb args.clock 1) =
-        elim c.if-first-2.branch [ then-first-2 w ↦ rw w.if-first-2.true w.least-is | else-first-2 w ↦ rw w.if-first-2.false w.least-is ] in
+        elim c.if-first-2.branch [ then-first-2 w ↦ rw w.if-first-2.true w.least-is | else-first-2 w ↦ rw (ne_eqb args.clock 1 w.if-first-2.false) w.least-is ] in
     too_few args.text.now args.at args.clock args.old _ _ _ there c.of-time.ensures.size c.if-values-text.false enough c.see_all-shown.ensures c.if-shown-values.true
 
 pub returns : goal.returns
@@ -92,5 +92,5 @@ returns c =
     let args = c.args in
     let there = asked args.text.now args.at args.clock _ _ _ c.goes_on.ensures c.of-time.ensures.bytes c.if-not-goes_on.false in
     let enough : c.if-first-2.least ≡ least (eqb args.clock 1) =
-        elim c.if-first-2.branch [ then-first-2 w ↦ rw w.if-first-2.true w.least-is | else-first-2 w ↦ rw w.if-first-2.false w.least-is ] in
+        elim c.if-first-2.branch [ then-first-2 w ↦ rw w.if-first-2.true w.least-is | else-first-2 w ↦ rw (ne_eqb args.clock 1 w.if-first-2.false) w.least-is ] in
     all_there args.text.now args.at args.clock args.old _ _ _ there c.of-time.ensures.size c.if-values-text.false enough c.see_all-shown.ensures c.if-shown-values.false
