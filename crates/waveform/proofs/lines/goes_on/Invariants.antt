@@ -1,11 +1,8 @@
 -- The bytes before i are the same, so what is left decides.
-use Prim.Native.Nat.{ℕ, ◌+◌, ◌-◌, ◌≤◌, ◌<◌}
-use mathlib.Core.Path.{◌≡◌, sym, ◌∙◌}
-use native.Mathlib.Omega.{arith}
-use lib.ListN.{length, drop, length-drop}
-use lib.Seq.{drop-length}
+use Prim.Native.Nat.{◌+◌, ◌-◌, ◌≤◌}
+use mathlib.Core.Path.{◌≡◌}
+use lib.ListN.{length, drop}
 use Rattle.waveform.specs.Text.{starts_with}
-use Rattle.waveform.proofs.Starts.{too_short, goes-on-by, ends_by}
 use Rattle.waveform.proofs.lines.goes_on.Given as goal
 
 abbrev pub invariant-loop-i : goal.invariant-loop-i

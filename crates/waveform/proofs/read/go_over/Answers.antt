@@ -44,8 +44,8 @@ loop-i-preserved c =
     let args = c.args in
     goes_on args.text.now args.writing args.flags.now c.requires c.loop-i.invariant c.loop-i-test.true c.in-Clock.shown (sym c.in-Clock.ensures) c.if-writing.flags
     (elim c.if-writing.branch [
-      then-writing w ↦ rw w.if-writing.true (w.flags-is ∙ ap (set c.loop-i.flags c.loop-i.i) w.flags.ensures)
-    | else-writing w ↦ rw w.if-writing.false w.flags-is
+      | then-writing w ↦ rw w.if-writing.true (w.flags-is ∙ ap (set c.loop-i.flags c.loop-i.i) w.flags.ensures)
+      | else-writing w ↦ rw w.if-writing.false w.flags-is
     ])
 
 pub returns : goal.returns

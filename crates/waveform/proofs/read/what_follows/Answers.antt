@@ -84,7 +84,7 @@ returns-then-shown-values c =
     let args = c.args in
     let there = asked args.text.now args.at args.clock _ _ _ c.goes_on.ensures c.of-time.ensures.bytes c.if-not-goes_on.false in
     let enough : c.if-first-2.least ≡ least (eqb args.clock 1) =
-        elim c.if-first-2.branch [ then-first-2 w ↦ rw w.if-first-2.true w.least-is | else-first-2 w ↦ rw (ne_eqb args.clock 1 w.if-first-2.false) w.least-is ] in
+    elim c.if-first-2.branch [ then-first-2 w ↦ rw w.if-first-2.true w.least-is | else-first-2 w ↦ rw (ne_eqb args.clock 1 w.if-first-2.false) w.least-is ] in
     too_few args.text.now args.at args.clock args.old _ _ _ there c.of-time.ensures.size c.if-values-text.false enough c.see_all-shown.ensures c.if-shown-values.true
 
 pub returns : goal.returns
@@ -92,5 +92,5 @@ returns c =
     let args = c.args in
     let there = asked args.text.now args.at args.clock _ _ _ c.goes_on.ensures c.of-time.ensures.bytes c.if-not-goes_on.false in
     let enough : c.if-first-2.least ≡ least (eqb args.clock 1) =
-        elim c.if-first-2.branch [ then-first-2 w ↦ rw w.if-first-2.true w.least-is | else-first-2 w ↦ rw (ne_eqb args.clock 1 w.if-first-2.false) w.least-is ] in
+    elim c.if-first-2.branch [ then-first-2 w ↦ rw w.if-first-2.true w.least-is | else-first-2 w ↦ rw (ne_eqb args.clock 1 w.if-first-2.false) w.least-is ] in
     all_there args.text.now args.at args.clock args.old _ _ _ there c.of-time.ensures.size c.if-values-text.false enough c.see_all-shown.ensures c.if-shown-values.false

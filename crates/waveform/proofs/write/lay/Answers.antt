@@ -1,5 +1,5 @@
 -- The header, then clock by clock what is to come, then the closing time.
-use Prim.Native.Nat.{ℕ, ◌+◌, ◌<◌}
+use Prim.Native.Nat.{ℕ, ◌+◌}
 use mathlib.Core.Path.{◌≡◌, subst, sym}
 use mathlib.Core.Bool.{Bool}
 use mathlib.Core.List.{List, ◌++◌}

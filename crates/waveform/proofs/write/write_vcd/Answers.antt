@@ -49,12 +49,12 @@ lay-requires-2-clause-has_room c =
     let args = c.args in
     let short = never-longer args.log.now (log-accepted args.log.now c.if-log-ne0.false c.if-log-gt-MOST.false) in
     let same : c.if-room-lt-LONGEST.text ≡ args.text.now =
-        elim c.if-room-lt-LONGEST.branch [ then-room-lt-LONGEST+else-room-lay w ↦ w.text-is ∙ w.lay.ensures.output | else-room-lt-LONGEST w ↦ w.text-is ] in
+    elim c.if-room-lt-LONGEST.branch [ then-room-lt-LONGEST+else-room-lay w ↦ w.text-is ∙ w.lay.ensures.output | else-room-lt-LONGEST w ↦ w.text-is ] in
     let fits : length (waveform args.log.now) ≤ length args.text.now =
-        elim c.if-room-lt-LONGEST.branch [
-          then-room-lt-LONGEST+else-room-lay w ↦ omega (arith, w.if-room-lay.false, w.lay.ensures.behind)
-        | else-room-lt-LONGEST w ↦ omega (arith, w.if-room-lt-LONGEST.false, short)
-        ] in
+    elim c.if-room-lt-LONGEST.branch [
+      | then-room-lt-LONGEST+else-room-lay w ↦ omega (arith, w.if-room-lay.false, w.lay.ensures.behind)
+      | else-room-lt-LONGEST w ↦ omega (arith, w.if-room-lt-LONGEST.false, short)
+    ] in
     record { fits = λ writes. omega (arith, fits, ap length same); short = omega (arith, short) }
 
 pub returns : goal.returns
@@ -66,12 +66,12 @@ returns c =
     let good = log-accepted args.log.now c.if-log-ne0.false c.if-log-gt-MOST.false in
     let short = never-longer args.log.now good in
     let same : c.if-room-lt-LONGEST.text ≡ args.text.now =
-        elim c.if-room-lt-LONGEST.branch [ then-room-lt-LONGEST+else-room-lay w ↦ w.text-is ∙ w.lay.ensures.output | else-room-lt-LONGEST w ↦ w.text-is ] in
+    elim c.if-room-lt-LONGEST.branch [ then-room-lt-LONGEST+else-room-lay w ↦ w.text-is ∙ w.lay.ensures.output | else-room-lt-LONGEST w ↦ w.text-is ] in
     let room : length text ≤ length args.text.now =
-        elim c.if-room-lt-LONGEST.branch [
-          then-room-lt-LONGEST+else-room-lay w ↦ omega (arith, w.if-room-lay.false, w.lay.ensures.behind)
-        | else-room-lt-LONGEST w ↦ omega (arith, w.if-room-lt-LONGEST.false, short)
-        ] in
+    elim c.if-room-lt-LONGEST.branch [
+      | then-room-lt-LONGEST+else-room-lay w ↦ omega (arith, w.if-room-lay.false, w.lay.ensures.behind)
+      | else-room-lt-LONGEST w ↦ omega (arith, w.if-room-lt-LONGEST.false, short)
+    ] in
     let fits = le-ltb (length args.text.now) (length text) room in
     let size : c.lay-2.result ≡ length text = omega (arith, laid.behind) in
     succeeds (rw (good, fits) (ap Done (sym size))) (laid.output ∙ put_first text c.if-room-lt-LONGEST.text ∙ ap (written text) same)
