@@ -1,6 +1,6 @@
-//! With the feature `door`: links the proved code, `target/staticlib/libdoor.a` at the repository's top (`rt staticlib door`). That is
-//! for x86-64; on another machine it goes into an x86-64 program instead, `c/serve.c`, which `src/door/piped.rs` asks. On x86-64
-//! `TAKSHERUB_DOOR` names another folder with a `libdoor.a`, so that two builds of the proved code can be timed against each other.
+//! With the feature `door`: links the proved code, `../crates/door/out/libdoor.a` (`rt lib` in crates/door). That is for x86-64; on
+//! another machine it goes into an x86-64 program instead, `c/serve.c`, which `src/door/piped.rs` asks. On x86-64 `TAKSHERUB_DOOR` names
+//! another folder with a `libdoor.a`, so that two builds of the proved code can be timed against each other.
 
 use std::env;
 use std::path::{Path, PathBuf};
@@ -17,11 +17,11 @@ fn main() {
     let linked = variable("CARGO_CFG_TARGET_ARCH") == "x86_64";
     println!("cargo:rerun-if-env-changed={FOLDER}");
     let other = env::var_os(FOLDER).filter(|_| linked).map(PathBuf::from);
-    let folder = other.unwrap_or_else(|| Path::new(&host).join("../target/staticlib"));
+    let folder = other.unwrap_or_else(|| Path::new(&host).join("../crates/door/out"));
     let archive = folder.join("libdoor.a");
     println!("cargo:rerun-if-changed={}", archive.display());
     if !archive.exists() {
-        panic!("{} is missing: write it with `rt staticlib door` at the repository's top", archive.display());
+        panic!("{} is missing: write it with `rt lib` in crates/door", archive.display());
     }
     if linked {
         println!("cargo:rustc-link-search=native={}", folder.display());

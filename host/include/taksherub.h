@@ -1,6 +1,6 @@
 /* The bench through C: the proved code of crates/door.
  *
- * Link target/staticlib/libdoor.a, written by `rt staticlib door`, into a
+ * Link crates/door/out/libdoor.a, written by `rt lib` in crates/door, into a
  * program for x86-64 (host/README.md says how, and how on Arm).
  *
  * Every call answers 0 when done, else number * 65536 + index: the number of
