@@ -1,20 +1,10 @@
 -- The places are asked in order, those with a PHY and then the blank ones, and the first at fault refuses.
-use Prim.Native.Nat.{◌≤◌, ◌<◌, ◌-◌}
-use mathlib.Core.Bool.{true, false, ◌&&◌}
-use mathlib.Core.Path.{◌≡◌, ap, ap₂, sym, ◌∙◌}
-use native.Mathlib.Omega.{arith}
-use lib.ListN.{get_or, set}
-use borrow.Author.Tests.{lt-ltb, le-ltb, lt-leb, le-leb}
-use Rattle.verdict.specs.declared.Verdict.TheVariants.{Done, Refused}
+use Prim.Native.Nat.{◌≤◌, ◌-◌}
+use mathlib.Core.Path.{◌≡◌}
+use Rattle.verdict.specs.declared.Verdict.TheVariants.{Done}
 use Rattle.verdict.specs.File.{in_order}
-use Rattle.verdict.proofs.Checks.{next, stop, finish}
-use Rattle.phy.specs.Sound.{nowhere}
-use Rattle.phy.proofs.Typing.{typed-array}
-use Rattle.board.specs.declared.Board.{Board}
-use Rattle.board.specs.Record.{has_address, taken_by}
-use Rattle.board.specs.Check.{place_at, passes_as, record_passes, place_sound, place_fault, checked}
-use Rattle.board.proofs.Taken.{taken_none, taken_at, taken_next}
-use borrow.Author.Rules.{rules}
+use Rattle.board.specs.Record.{taken_by}
+use Rattle.board.specs.Check.{place_at, place_fault, checked}
 use Rattle.board.proofs.check.Given as goal
 
 abbrev pub invariant-loop-k : goal.invariant-loop-k

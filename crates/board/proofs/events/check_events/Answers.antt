@@ -13,7 +13,6 @@ use borrow.Author.Rules.{rules}
 use Rattle.verdict.specs.declared.Verdict.TheVariants.{Refused}
 use Rattle.verdict.specs.File.{file_verdict}
 use Rattle.verdict.proofs.Checks.{next, stop, finish}
-use Rattle.phy.specs.declared.Phy.{Phy}
 use Rattle.phy.specs.Record.{any}
 use Rattle.board.specs.declared.Board.{Board}
 use Rattle.board.specs.declared.events.EventRecord.{EventRecord}

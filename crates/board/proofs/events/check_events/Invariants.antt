@@ -1,22 +1,12 @@
 -- The records are asked in order, and the first at fault refuses.
-use Prim.Native.Nat.{ℕ, ◌≤◌, ◌-◌, min}
+use Prim.Native.Nat.{ℕ, ◌≤◌, ◌-◌}
 use mathlib.Core.Bool.{Bool, false}
 use mathlib.Core.List.{List}
-use mathlib.Core.Path.{◌≡◌, refl, ap, ap₂, sym, ◌∙◌}
-use native.Mathlib.Omega.{arith}
-use native.Mathlib.Nat.{sub-zero}
-use native.Mathlib.Numerals.{add-one}
-use lib.Dec.{eqb}
+use mathlib.Core.Path.{◌≡◌}
 use lib.ListN.{get_or}
-use borrow.Author.Tests.{eq-eqb, ne_eqb, lt-ltb, le-ltb}
-use Rattle.verdict.specs.declared.Verdict.TheVariants.{Done, Refused}
+use Rattle.verdict.specs.declared.Verdict.TheVariants.{Done}
 use Rattle.verdict.specs.File.{in_order, file_verdict}
-use Rattle.verdict.proofs.Checks.{next, stop, finish}
-use Rattle.phy.specs.Record.{any}
-use Rattle.board.specs.Check.{places}
-use Rattle.board.specs.Events.{event_clock, event_address, clock_before, event_fault_as, event_fault, judged, refusal_of, on_board, events_verdict}
-use Rattle.board.proofs.Records.{good-event, bad-event, among-is}
-use borrow.Author.Rules.{rules}
+use Rattle.board.specs.Events.{event_address, clock_before, event_fault_as}
 use Rattle.board.proofs.events.check_events.Given as goal
 
 -- what the checks find of a record where a table says which addresses are on the board

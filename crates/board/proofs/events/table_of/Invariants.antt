@@ -1,14 +1,8 @@
 -- One address more each turn.
-use Prim.Native.Nat.{ℕ, ◌≤◌, ◌<◌, ◌-◌}
-use mathlib.Core.Bool.{true, false}
-use mathlib.Core.Path.{◌≡◌, ap, ◌∙◌}
-use native.Mathlib.Omega.{arith}
-use lib.ListN.{get_or, set}
-use mir.Syntax.{w8}
-use mir.Val.{Fits}
+use Prim.Native.Nat.{◌≤◌, ◌-◌}
+use mathlib.Core.Path.{◌≡◌}
+use lib.ListN.{get_or}
 use Rattle.board.specs.Record.{taken_by}
-use Rattle.board.proofs.Taken.{taken_none, taken_next, taken-anywhere}
-use borrow.Author.Rules.{rules}
 use Rattle.board.proofs.events.table_of.Given as goal
 
 abbrev pub invariant-loop-i : goal.invariant-loop-i

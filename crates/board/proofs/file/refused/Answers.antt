@@ -1,8 +1,6 @@
 -- The board of no PHYs: 32 blank places.
-use mathlib.Core.Path.{ap}
 use Rattle.verdict.specs.Output.{tabulate}
 use Rattle.board.specs.Load.{board_of}
-use borrow.Author.Rules.{rules}
 use Rattle.board.proofs.file.refused.Goals as goal
 
 pub returns : goal.returns

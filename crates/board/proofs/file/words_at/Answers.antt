@@ -1,12 +1,11 @@
 -- A loop puts the pairs of bytes, low byte first, and a loop turns each into its word.
 use mathlib.Core.Path.{◌≡◌, refl, ap, ◌∙◌}
 use mathlib.Core.List.{List, append-nil}
-use Prim.Native.Nat.{ℕ, suc, ◌+◌, ◌*◌, ◌/◌, ◌%◌, ◌≤◌, ◌<◌, ◌-◌}
+use Prim.Native.Nat.{ℕ, suc, ◌+◌, ◌*◌, ◌<◌}
 use native.Mathlib.Omega.{arith}
-use lib.ListN.{length, get_or, drop, replicate}
+use lib.ListN.{length, get_or, drop}
 use lib.Seq.{drop-cons, get_or_at}
 use Rattle.verdict.specs.Output.{tabulate}
-use Rattle.verdict.specs.File.{byte_at, word_at}
 use Rattle.verdict.proofs.Lists.{length-tabulate, get_or-tabulate}
 use Rattle.verdict.proofs.Outputs.{filled, fill}
 use borrow.Author.Count.{below_none, below_more}

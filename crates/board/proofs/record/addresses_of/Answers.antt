@@ -1,12 +1,12 @@
 -- Place by place: after i turns the first i addresses stand.
-use Prim.Native.Nat.{ℕ, ◌≤◌, ◌-◌}
+use Prim.Native.Nat.{ℕ}
 use mathlib.Core.Path.{◌≡◌, refl, sym, ◌∙◌}
 use mathlib.Core.List.{append-nil}
 use native.Mathlib.Omega.{arith}
-use lib.ListN.{length, get_or, length-map, get_or-map}
+use lib.ListN.{length, length-map, get_or-map}
 use Rattle.verdict.specs.Output.{tabulate}
 use Rattle.verdict.proofs.Lists.{tabulate-of}
-use Rattle.verdict.proofs.Outputs.{filled, fill}
+use Rattle.verdict.proofs.Outputs.{fill}
 use Rattle.phy.specs.declared.Phy.{Phy}
 use Rattle.phy.specs.Sound.{nowhere}
 use Rattle.board.specs.Record.{addresses_of}

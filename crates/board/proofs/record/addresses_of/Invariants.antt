@@ -1,16 +1,9 @@
 -- Place by place: after i turns the first i addresses stand.
-use Prim.Native.Nat.{ℕ, ◌≤◌, ◌-◌}
-use mathlib.Core.Path.{◌≡◌, refl, sym, ◌∙◌}
-use mathlib.Core.List.{append-nil}
-use native.Mathlib.Omega.{arith}
-use lib.ListN.{length, get_or, length-map, get_or-map}
-use Rattle.verdict.specs.Output.{tabulate}
-use Rattle.verdict.proofs.Lists.{tabulate-of}
-use Rattle.verdict.proofs.Outputs.{filled, fill}
-use Rattle.phy.specs.declared.Phy.{Phy}
+use Prim.Native.Nat.{◌≤◌, ◌-◌}
+use mathlib.Core.Path.{◌≡◌}
+use lib.ListN.{get_or}
+use Rattle.verdict.proofs.Outputs.{filled}
 use Rattle.phy.specs.Sound.{nowhere}
-use Rattle.board.specs.Record.{addresses_of}
-use borrow.Author.Rules.{rules}
 use Rattle.board.proofs.record.addresses_of.Given as goal
 
 abbrev pub invariant-loop-i : goal.invariant-loop-i

@@ -1,6 +1,5 @@
 -- Each test is its clause of `defaults_right`.
 use Rattle.phy.specs.Record.{defaults_right}
-use borrow.Author.Rules.{rules}
 use Rattle.board.proofs.record.defaults_right.Goals as goal
 
 pub returns : goal.returns

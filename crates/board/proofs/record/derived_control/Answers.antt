@@ -1,13 +1,11 @@
 -- Speed, bit 12 and bit 8 are added up as `derived_control` says; each has its own bits, so the sum fits.
-use Prim.Native.Nat.{ℕ, ◌*◌, ◌^◌, ◌≤◌}
+use Prim.Native.Nat.{◌*◌, ◌^◌}
 use mathlib.Core.Path.{◌≡◌}
 use native.Mathlib.Omega.{arith}
 use native.Mathlib.Nat.{add-zero}
 use Rattle.verdict.specs.Bits.{bit}
 use Rattle.phy.specs.Record.{derived_control}
-use Rattle.phy.proofs.Derived.{fastest-most}
 use Rattle.phy.proofs.Words.{bit-lt, and-bit}
-use borrow.Author.Rules.{rules}
 use Rattle.board.proofs.record.derived_control.Goals as goal
 use Rattle.board.proofs.record.derived_control.Goals.{then-status-ne0, else-status-ne0}
 

@@ -1,6 +1,5 @@
 -- Each branch is the first finding of `fault_of` that its tests pick.
 use Rattle.board.specs.Record.{fault_of}
-use borrow.Author.Rules.{rules}
 use Rattle.board.proofs.record.fault.Goals as goal
 
 pub returns-then-own-zero : goal.returns-then-own-zero

@@ -7,7 +7,6 @@ use lib.Bits.{bit_and}
 use lib.Pow.{pow-lt}
 use lib.Dec.{eqb}
 use Rattle.phy.proofs.Words.{has-bit}
-use borrow.Author.Rules.{rules}
 use Rattle.board.proofs.record.has.Goals as goal
 
 -- `1 << register`

@@ -5,7 +5,6 @@ use Prim.Native.Nat.{ℕ}
 use Rattle.phy.specs.Record.{others_implemented}
 use Rattle.phy.proofs.Words.{has-these}
 use Rattle.board.proofs.Turns.{any-down}
-use borrow.Author.Rules.{rules}
 use Rattle.board.proofs.record.others_implemented.Goals as goal
 
 others : List ℕ

@@ -1,7 +1,6 @@
 -- Each test is its clause of `register_set_right`.
 use Rattle.phy.specs.Record.{register_set_right}
 use Rattle.phy.proofs.Words.{has-bit}
-use borrow.Author.Rules.{rules}
 use Rattle.board.proofs.record.register_set_right.Goals as goal
 
 pub returns : goal.returns

@@ -1,10 +1,8 @@
 -- Registers that are not implemented are zero: one test more each turn.
-use Prim.Native.Nat.{◌≤◌, ◌-◌}
 use mathlib.Core.Bool.{◌&&◌, ◌||◌}
 use mathlib.Core.Path.{◌≡◌, refl, ap}
 use native.Mathlib.Omega.{arith}
 use lib.Dec.{eqb}
-use Rattle.phy.specs.Abilities.{one}
 use Rattle.phy.specs.Record.{every, word, unimplemented_zero}
 use Rattle.board.proofs.Turns.{every-turn}
 use borrow.Author.Rules.{rules}

@@ -1,13 +1,10 @@
 -- Registers that are not implemented are zero: one test more each turn.
 use Prim.Native.Nat.{◌≤◌, ◌-◌}
 use mathlib.Core.Bool.{◌&&◌, ◌||◌}
-use mathlib.Core.Path.{◌≡◌, refl, ap}
-use native.Mathlib.Omega.{arith}
+use mathlib.Core.Path.{◌≡◌}
 use lib.Dec.{eqb}
 use Rattle.phy.specs.Abilities.{one}
-use Rattle.phy.specs.Record.{every, word, unimplemented_zero}
-use Rattle.board.proofs.Turns.{every-turn}
-use borrow.Author.Rules.{rules}
+use Rattle.phy.specs.Record.{every, word}
 use Rattle.board.proofs.record.unimplemented_zero.Given as goal
 
 abbrev pub invariant-loop-r : goal.invariant-loop-r

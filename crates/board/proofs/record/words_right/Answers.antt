@@ -7,7 +7,6 @@ use lib.Bits.{and_mask}
 use Rattle.phy.proofs.Derived.{derived-most}
 use Rattle.phy.proofs.Words.{bit-lt, and-bit, has-none}
 use Rattle.phy.specs.Record.{words_right}
-use borrow.Author.Rules.{rules}
 use Rattle.board.proofs.record.words_right.Goals as goal
 
 pub overflow_add-result : goal.overflow_add-result

@@ -1,5 +1,4 @@
 -- A blank PHY is a fresh one whose numbers are zero.
-use borrow.Author.Rules.{rules}
 use Rattle.phy.specs.Sound.{blank}
 use Rattle.board.proofs.sound.blank.Goals as goal
 

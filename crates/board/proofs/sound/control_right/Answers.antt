@@ -1,7 +1,6 @@
 -- Each test is its clause of `control_right`.
 use lib.Bits.{and_mask}
 use Rattle.phy.proofs.Words.{has-bit, has-no-bit}
-use borrow.Author.Rules.{rules}
 use Rattle.board.proofs.sound.control_right.Goals as goal
 
 pub returns : goal.returns

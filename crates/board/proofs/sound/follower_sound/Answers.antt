@@ -1,7 +1,6 @@
 -- Each branch is the case of `follower_sound` that its tests pick.
 use borrow.Author.Tests.{lt-leb, le-leb}
 use Rattle.phy.specs.Sound.{follower_sound}
-use borrow.Author.Rules.{rules}
 use Rattle.board.proofs.sound.follower_sound.Goals as goal
 
 pub returns-then-seen-lt1 : goal.returns-then-seen-lt1

@@ -1,6 +1,5 @@
 -- Each test is its clause of `is_blank`.
 use Rattle.phy.specs.Sound.{is_blank}
-use borrow.Author.Rules.{rules}
 use Rattle.board.proofs.sound.is_blank.Goals as goal
 
 pub returns : goal.returns

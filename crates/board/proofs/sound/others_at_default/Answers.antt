@@ -1,10 +1,9 @@
 -- All registers but 0 stand at default: one test more each turn.
-use mathlib.Core.Path.{◌≡◌, refl, ap, sym, ◌∙◌}
-use mathlib.Core.Bool.{◌||◌}
-use Prim.Native.Nat.{ℕ, zero, suc, ◌≤◌, ◌-◌}
+use mathlib.Core.Path.{◌≡◌, refl, sym, ◌∙◌}
+use Prim.Native.Nat.{ℕ, zero, suc}
 use native.Mathlib.Omega.{arith}
 use lib.Dec.{eqb, leb, eqb-suc-zero, leb-suc-zero}
-use Rattle.phy.specs.Record.{every, word}
+use Rattle.phy.specs.Record.{every}
 use Rattle.phy.specs.Sound.{others_at_default}
 use Rattle.board.proofs.Turns.{every-turn}
 use borrow.Author.Rules.{rules}

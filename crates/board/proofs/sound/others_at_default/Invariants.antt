@@ -1,13 +1,9 @@
 -- All registers but 0 stand at default: one test more each turn.
-use mathlib.Core.Path.{◌≡◌, refl, ap, sym, ◌∙◌}
+use mathlib.Core.Path.{◌≡◌}
 use mathlib.Core.Bool.{◌||◌}
-use Prim.Native.Nat.{ℕ, zero, suc, ◌≤◌, ◌-◌}
-use native.Mathlib.Omega.{arith}
-use lib.Dec.{eqb, leb, eqb-suc-zero, leb-suc-zero}
+use Prim.Native.Nat.{◌≤◌, ◌-◌}
+use lib.Dec.{eqb, leb}
 use Rattle.phy.specs.Record.{every, word}
-use Rattle.phy.specs.Sound.{others_at_default}
-use Rattle.board.proofs.Turns.{every-turn}
-use borrow.Author.Rules.{rules}
 use Rattle.board.proofs.sound.others_at_default.Given as goal
 
 abbrev pub invariant-loop-r : goal.invariant-loop-r

@@ -1,5 +1,4 @@
 -- Each test is its clause of `phy_sound`.
-use borrow.Author.Rules.{rules}
 use Rattle.phy.specs.Sound.{control_sound, phy_sound}
 use Rattle.phy.proofs.Words.{has-bit, has-no-bit}
 use Rattle.board.proofs.sound.phy_sound.Goals as goal

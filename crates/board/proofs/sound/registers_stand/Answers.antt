@@ -1,11 +1,10 @@
 -- The registers above 1 stand outside their masks: one test more each turn.
 use mathlib.Core.Path.{◌≡◌, refl, ap}
 use mathlib.Core.Bool.{◌||◌}
-use Prim.Native.Nat.{◌≤◌, ◌-◌}
 use native.Mathlib.Omega.{arith}
 use lib.Dec.{leb}
-use Rattle.phy.specs.Record.{every, word}
-use Rattle.phy.specs.Sound.{stands_outside, registers_stand}
+use Rattle.phy.specs.Record.{every}
+use Rattle.phy.specs.Sound.{registers_stand}
 use Rattle.board.proofs.Turns.{every-turn}
 use borrow.Author.Rules.{rules}
 use Rattle.board.proofs.sound.registers_stand.Goals as goal

@@ -1,6 +1,5 @@
 -- Not in reset nothing is asked; else each test is its part of `reset_stands`.
 use Rattle.phy.specs.Registers.{in_reset}
-use borrow.Author.Rules.{rules}
 use Rattle.board.proofs.sound.reset_stands.Goals as goal
 
 pub returns-then-not-in_reset : goal.returns-then-not-in_reset

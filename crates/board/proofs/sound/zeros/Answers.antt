@@ -1,9 +1,6 @@
 -- All words are zero: one test more each turn.
-use mathlib.Core.Path.{◌≡◌, refl}
-use Prim.Native.Nat.{◌≤◌, ◌-◌}
-use native.Mathlib.Omega.{arith}
-use lib.Dec.{eqb}
-use Rattle.phy.specs.Record.{every, word}
+use mathlib.Core.Path.{refl}
+use Rattle.phy.specs.Record.{every}
 use Rattle.board.proofs.Turns.{every-turn}
 use borrow.Author.Rules.{rules}
 use Rattle.board.proofs.sound.zeros.Goals as goal

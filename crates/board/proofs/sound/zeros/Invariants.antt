@@ -1,11 +1,8 @@
 -- All words are zero: one test more each turn.
-use mathlib.Core.Path.{◌≡◌, refl}
+use mathlib.Core.Path.{◌≡◌}
 use Prim.Native.Nat.{◌≤◌, ◌-◌}
-use native.Mathlib.Omega.{arith}
 use lib.Dec.{eqb}
 use Rattle.phy.specs.Record.{every, word}
-use Rattle.board.proofs.Turns.{every-turn}
-use borrow.Author.Rules.{rules}
 use Rattle.board.proofs.sound.zeros.Given as goal
 
 abbrev pub invariant-loop-r : goal.invariant-loop-r
