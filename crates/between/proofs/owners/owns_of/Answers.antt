@@ -1,11 +1,10 @@
 -- Place by place: after i turns the first i stand.
-use Prim.Native.Nat.{◌≤◌, ◌-◌}
 use mathlib.Core.Path.{◌≡◌, refl, ◌∙◌}
 use native.Mathlib.Omega.{arith}
-use lib.ListN.{length, get_or, replicate, length-map}
+use lib.ListN.{length, get_or, replicate}
 use borrow.Author.Rules.{rules}
 use Rattle.verdict.specs.Output.{tabulate}
-use Rattle.verdict.proofs.Outputs.{filled, fill}
+use Rattle.verdict.proofs.Outputs.{fill}
 use Rattle.phy.specs.declared.Phy.{Phy}
 use Rattle.phy.specs.Sound.{nowhere}
 use Rattle.between.proofs.Filling.{filled-map}

@@ -1,14 +1,9 @@
 -- Place by place: after i turns the first i stand.
 use Prim.Native.Nat.{◌≤◌, ◌-◌}
-use mathlib.Core.Path.{◌≡◌, refl, ◌∙◌}
-use native.Mathlib.Omega.{arith}
-use lib.ListN.{length, get_or, replicate, length-map}
-use borrow.Author.Rules.{rules}
-use Rattle.verdict.specs.Output.{tabulate}
-use Rattle.verdict.proofs.Outputs.{filled, fill}
-use Rattle.phy.specs.declared.Phy.{Phy}
+use mathlib.Core.Path.{◌≡◌}
+use lib.ListN.{get_or}
+use Rattle.verdict.proofs.Outputs.{filled}
 use Rattle.phy.specs.Sound.{nowhere}
-use Rattle.between.proofs.Filling.{filled-map}
 use Rattle.between.proofs.owners.owns_of.Given as goal
 
 abbrev pub invariant-loop-i : goal.invariant-loop-i

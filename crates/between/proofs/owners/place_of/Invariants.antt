@@ -1,13 +1,8 @@
 -- Place by place: none of those passed has the address, so it is found among the ones that are left.
-use Prim.Native.Nat.{◌-◌, ◌<◌}
-use mathlib.Core.Path.{◌≡◌, refl, sym, ◌∙◌}
-use native.Mathlib.Omega.{arith}
-use lib.ListN.{length, take}
+use Prim.Native.Nat.{◌-◌}
+use lib.ListN.{take}
 use lib.Dec.{eqb}
-use borrow.Author.Tests.{eq-eqb, ne_eqb}
-use borrow.Author.Rules.{rules}
-use Rattle.phy.specs.Sound.{nowhere}
-use Rattle.between.proofs.Finding.{Among, found_here, found-later, found_nowhere}
+use Rattle.between.proofs.Finding.{Among}
 use Rattle.between.proofs.owners.place_of.Given as goal
 
 abbrev pub invariant-loop-i : goal.invariant-loop-i
