@@ -1,0 +1,15 @@
+-- Where the lines are alike the follower is the common one.
+use borrow.Author.Rules.{rules}
+use Rattle.wire_machine.proofs.common.Common.stands.Reads as reads
+use Rattle.wire_machine.proofs.common.Common.stands.Lts as lts
+use Rattle.wire_machine.proofs.line.Line.with_follower.Reads as with-follower-reads
+use Rattle.wire_machine.specs.Common.{stands}
+use Rattle.wire_machine.proofs.common.Common.stands.Goals as goal
+
+pub returns-then-self : goal.returns-then-self
+unfolding stands
+returns-then-self c = rw c.if-self.true c.with_follower.ensures
+
+pub returns-else-self : goal.returns-else-self
+unfolding stands
+returns-else-self c = rw c.if-self.false
