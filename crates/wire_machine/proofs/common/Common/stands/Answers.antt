@@ -1,8 +1,5 @@
 -- Where the lines are alike the follower is the common one.
 use borrow.Author.Rules.{rules}
-use Rattle.wire_machine.proofs.common.Common.stands.Reads as reads
-use Rattle.wire_machine.proofs.common.Common.stands.Lts as lts
-use Rattle.wire_machine.proofs.line.Line.with_follower.Reads as with-follower-reads
 use Rattle.wire_machine.specs.Common.{stands}
 use Rattle.wire_machine.proofs.common.Common.stands.Goals as goal
 

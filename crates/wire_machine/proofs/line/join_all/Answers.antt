@@ -1,0 +1,33 @@
+-- Place by place: after i turns the first i PHYs have their lines again.
+use Prim.Native.Nat.{◌≤◌, ◌-◌}
+use mathlib.Core.Path.{◌≡◌, refl, sym, ap, ◌∙◌}
+use native.Mathlib.Omega.{arith}
+use lib.ListN.{length, get_or, length-map}
+use borrow.Author.Rules.{rules}
+use Rattle.verdict.specs.Output.{tabulate}
+use Rattle.verdict.proofs.Outputs.{filled}
+use Rattle.phy.specs.Sound.{nowhere}
+use Rattle.wire_machine.specs.Lines.{no_line, onto}
+use Rattle.wire_machine.specs.Common.{stands, standing}
+use Rattle.between.proofs.Filling.{map_at}
+use Rattle.wire_machine.proofs.Turns.{rejoined, join-next, join-end}
+use Rattle.wire_machine.proofs.line.join_all.Goals as goal
+
+pub loop-i-init : goal.loop-i-init
+unfolding tabulate
+loop-i-init c = (search rules, refl, refl)
+
+pub loop-i-preserved : goal.loop-i-preserved
+loop-i-preserved c =
+    let loop = c.loop-i in
+    let places : length c.args.board.phys ≡ 32 = search rules in
+    let common = c.args.common in
+    let long : length c.args.lines ≡ 32 = search rules in
+    let here = c.stands-line.ensures ∙ sym (map_at (stands common) c.args.lines loop.i no_line no_line (omega arith)) in
+    let turn = join-next (standing common c.args.lines) c.args.board loop.board.phys loop.i _ (omega arith) loop.invariant.2 (c.onto-phy.ensures ∙ ap (λ line. onto line (get_or loop.board.phys loop.i nowhere)) here) in
+    (search rules, loop.invariant.1, turn)
+
+pub returns : goal.returns
+returns c =
+    let loop = c.loop-i in
+    join-end (standing c.args.common c.args.lines) c.args.board loop.board loop.i (omega arith) loop.invariant.1 loop.invariant.2
