@@ -171,10 +171,10 @@ loop-lines-preserved-then-moves_alike c =
     let run : Goes c.args.board c.args.steps.now c.args.events.now c.args.log.now = goes _ _ _ _ _ (search rules) c.requires in
     let loop = c.loop-lines in
     let all : c.if-is_silent.heard ≡ heard_from (heard_station c.station_drive-drive.result) (take c.args.board.count (standing loop.common loop.lines)) =
-        elim c.if-is_silent.branch [
-          then-is_silent w ↦ w.heard-is ∙ w.station-heard.ensures ∙ sym (hears-silent loop.common (sym w.if-is_silent.ensures) _ c.args.board.count loop.lines)
-          | else-is_silent w ↦ w.heard-is ∙ w.hear-heard.ensures
-        ] in
+    elim c.if-is_silent.branch [
+      | then-is_silent w ↦ w.heard-is ∙ w.station-heard.ensures ∙ sym (hears-silent loop.common (sym w.if-is_silent.ensures) _ c.args.board.count loop.lines)
+      | else-is_silent w ↦ w.heard-is ∙ w.hear-heard.ensures
+    ] in
     let none = sym c.if-is_due.ensures in
     let level = c.if-is_silent.heard.level in
     let moved = all-follow level loop.common (sym c.if-moves_alike.ensures) loop.lines (shows run loop.common loop.lines loop.invariant none) in
@@ -260,7 +260,7 @@ loop-i-preserved c =
           let next : set qs i (clock level (get_or qs i nowhere)) ≡ replaced (clock level) (i + 1) phys = replace-next (clock level) i phys qs nowhere _ (omega arith) refl refl in
           let here = c.stands-line.ensures ∙ sym (mixed-at (stands at.common) i loop.lines no_line place) in
           elim c.if-acts.branch [
-            then-acts w ↦ rw (w.board-is, w.lines-is, ← next, ← mixed-set (stands at.common) i loop.lines w.of-then-acts.result) (turn-acts so_far same i there level w.of-then-acts.result w.clock-phy.result (w.clock-phy.ensures ∙ ap (clock level) (w.onto.ensures ∙ ap (λ l. onto l (get_or loop.board.phys i nowhere)) here)) w.of-then-acts.ensures)
+            | then-acts w ↦ rw (w.board-is, w.lines-is, ← next, ← mixed-set (stands at.common) i loop.lines w.of-then-acts.result) (turn-acts so_far same i there level w.of-then-acts.result w.clock-phy.result (w.clock-phy.ensures ∙ ap (clock level) (w.onto.ensures ∙ ap (λ l. onto l (get_or loop.board.phys i nowhere)) here)) w.of-then-acts.ensures)
             | else-acts w ↦ rw (w.board-is, w.lines-is, ← next, ← mixed-set (stands at.common) i loop.lines w.follows-else-acts.result) (turn-follows so_far same i there level w.follows-else-acts.result (ap line_acts (sym here) ∙ sym w.if-acts.ensures) (w.follows-else-acts.ensures ∙ ap (line_follows level) here))
           ],
     )
@@ -270,10 +270,10 @@ loop-lines-preserved c =
     let run : Goes c.args.board c.args.steps.now c.args.events.now c.args.log.now = goes _ _ _ _ _ (search rules) c.requires in
     let loop = c.loop-lines in
     let all : c.if-is_silent.heard ≡ heard_from (heard_station c.station_drive-drive.result) (take c.args.board.count (standing loop.common loop.lines)) =
-        elim c.if-is_silent.branch [
-          then-is_silent w ↦ w.heard-is ∙ w.station-heard.ensures ∙ sym (hears-silent loop.common (sym w.if-is_silent.ensures) _ c.args.board.count loop.lines)
-          | else-is_silent w ↦ w.heard-is ∙ w.hear-heard.ensures
-        ] in
+    elim c.if-is_silent.branch [
+      | then-is_silent w ↦ w.heard-is ∙ w.station-heard.ensures ∙ sym (hears-silent loop.common (sym w.if-is_silent.ensures) _ c.args.board.count loop.lines)
+      | else-is_silent w ↦ w.heard-is ∙ w.hear-heard.ensures
+    ] in
     let none = sym c.if-is_due.ensures in
     let turn = c.loop-i in
     let b = c.args.board in
