@@ -178,11 +178,11 @@ module _ (events : List ℕ) (rising : Rising events) where
       ap (quiet core (suc c) m) (map-stays (happens events (suc c)) (λ phy. none-for events (suc c) 0 (n events) phy (λ i h l same. omega (arith, none i (omega arith)))) phys)
       ∙ quiet-still m (suc c) phys (λ i l. omega (arith, none i l))
 
-  abbrev Goes_on : ℕ → ℕ → Type 0
-  Goes_on k left = (m c : ℕ) (phys : List Phy) → Reached events c k → quiet core c m (map (happens_from events k left c) phys) ≡ happened events (c + m) k left phys
+  abbrev GoesOn : ℕ → ℕ → Type 0
+  GoesOn k left = (m c : ℕ) (phys : List Phy) → Reached events c k → quiet core c m (map (happens_from events k left c) phys) ≡ happened events (c + m) k left phys
 
   -- a record of clock c happens first
-  record-here : (k left : ℕ) → k + suc left ≡ n events → Goes_on (suc k) left → (m c : ℕ) (phys : List Phy) → Reached events c k → event_clock events k ≡ c → quiet core c m (map (happens_from events k (suc left) c) phys) ≡ happened events (c + m) k (suc left) phys
+  record-here : (k left : ℕ) → k + suc left ≡ n events → GoesOn (suc k) left → (m c : ℕ) (phys : List Phy) → Reached events c k → event_clock events k ≡ c → quiet core c m (map (happens_from events k (suc left) c) phys) ≡ happened events (c + m) k (suc left) phys
   unfolding happened
   record-here k left all rest m c phys r here =
       let next = rw (add-one k) at (reached-next r (omega arith) (omega arith)) in
@@ -195,7 +195,7 @@ module _ (events : List ℕ) (rising : Rising events) where
   none_here k left c phys all past =
       map-stays (happens_from events k (suc left) c) (λ phy. none-for events c k (suc left) phy (λ i h l same. omega (arith, rising k i h (omega arith)))) phys
 
-  one-record : (k left : ℕ) → k + suc left ≡ n events → Goes_on (suc k) left → Goes_on k (suc left)
+  one-record : (k left : ℕ) → k + suc left ≡ n events → GoesOn (suc k) left → GoesOn k (suc left)
   unfolding quiet happened
   one-record k left all rest zero c phys r =
       elim (ℕ_discrete (event_clock events k) c) [
@@ -218,7 +218,7 @@ module _ (events : List ℕ) (rising : Rising events) where
             ∙ ap (λ limit. happened events limit k (suc left) phys) end
       ]
 
-  goes_on : (left k : ℕ) → k + left ≡ n events → Goes_on k left
+  goes_on : (left k : ℕ) → k + left ≡ n events → GoesOn k left
   unfolding happened happens_from
   goes_on zero k all m c phys r =
       ap (quiet core c m) (map-stays (happens_from events k zero c) (λ phy. refl) phys)
