@@ -1,8 +1,7 @@
 -- What a line tells of its PHY in a clock, and a step and a mask bit by bit.
-use Prim.Native.Nat.{ℕ, zero, suc, ◌*◌, ◌%◌, ◌^◌, ◌≤◌, ◌<◌}
+use Prim.Native.Nat.{ℕ, zero, suc, ◌*◌, ◌%◌, ◌^◌, ◌<◌}
 use mathlib.Core.Path.{◌≡◌, refl, ap, ◌∙◌}
-use mathlib.Core.Bool.{Bool, true, false, cond}
-use native.Mathlib.Omega.{arith}
+use mathlib.Core.Bool.{false, cond}
 use Rattle.wire.specs.declared.Drive.TheVariants.{Released}
 use Rattle.wire.specs.declared.Follower.{Follower}
 use Rattle.wire.specs.declared.Follower.TheVariants.{Hunting, Inside}
@@ -10,7 +9,7 @@ use native.Mathlib.Nat.{mod-eq_of_lt, one-mul}
 use lib.Bits.{bit_or}
 use lib.Dec.{eqb}
 use lib.Pow.{pow-lt}
-use Rattle.wire.specs.Wire.{as_bit, station_drive}
+use Rattle.wire.specs.Wire.{station_drive}
 use Rattle.wire.specs.Follower.{one_more, header_seen}
 use Rattle.phy.specs.Words.{set_bit}
 use Rattle.phy.specs.Own.{is_own}

@@ -1,23 +1,19 @@
 -- Event by event and clock by clock: the specified PHYs are the board's with their lines put back as they stand, and the log has its records. A clock moves the common follower, or goes line by line.
-use Rattle.std.proofs.Common.{ℕ, ◌+◌, ◌*◌, ◌-◌, ◌≤◌, ◌<◌, ◌≡◌, ◌≢◌, refl, sym, ap, subst, ◌∙◌, Bool, true, false, List, map, length, get_or, set, take, length-set, rules, arith}
-use mathlib.Core.Path.{ap₂}
-use Prim.Native.Nat.{suc}
+use Rattle.std.proofs.Common.{ℕ, ◌+◌, ◌*◌, ◌-◌, ◌≤◌, ◌<◌, ◌≡◌, refl, sym, ap, subst, ◌∙◌, true, false, List, map, length, get_or, set, take, length-set, rules, arith}
 use native.Mathlib.Numerals.{add-one}
 use borrow.Rule.Slice.PartMut.{put_mid}
-use lib.ListN.{replicate, length-map}
-use Rattle.verdict.specs.File.{byte_at, records}
+use lib.ListN.{replicate}
+use Rattle.verdict.specs.File.{byte_at}
 use Rattle.verdict.specs.Output.{tabulate}
-use Rattle.verdict.proofs.Outputs.{pieced, filled, fill}
+use Rattle.verdict.proofs.Outputs.{filled, fill}
 use Rattle.wire.specs.declared.Drive.{Drive}
-use Rattle.wire.specs.Wire.{station_drive, level_of}
-use Rattle.phy.specs.declared.Phy.{Phy}
+use Rattle.wire.specs.Wire.{station_drive}
 use Rattle.phy.specs.Sound.{nowhere}
 use Rattle.phy.specs.Events.{event}
 use Rattle.phy.specs.Clock.{clock}
 use Rattle.board.specs.declared.Board.{Board}
-use Rattle.board.specs.Events.{event_record, event_address, event_code}
+use Rattle.board.specs.Events.{event_address}
 use Rattle.between.specs.Outcome.{phys_of, owns_of}
-use Rattle.between.specs.Events.{at_start}
 use Rattle.between.specs.Happened.{is_due, place_of}
 use Rattle.between.proofs.Places.{replaced, replace-next, length-replaced}
 use Rattle.between.proofs.Happenings.{due-now}
@@ -26,13 +22,11 @@ use Rattle.wire_machine.specs.declared.hear.Heard.{Heard}
 use Rattle.wire_machine.specs.declared.common.Common.{Common}
 use Rattle.wire_machine.specs.Lines.{line_of, place_in, no_line, onto, line_acts, line_follows, heard_station, heard_from, record_of}
 use Rattle.wire_machine.specs.Common.{stands, standing}
-use Rattle.wire_machine.specs.Run.{running}
 use Rattle.wire_machine.proofs.Turns.{replaced-all}
-use Rattle.wire_machine.proofs.Lockstep.{drives_in}
 use Rattle.wire_machine.proofs.Accepts.{Goes, goes}
-use Rattle.wire_machine.proofs.Stands.{Shows, turn-acts, turn-follows, phys, piece, Stands, begins, shown, length-is, event-next, clock-next}
-use Rattle.wire_machine.proofs.Begins.{lines-filled, lines-small, log-long, level-is, put_is, ends}
-use Rattle.wire_machine.proofs.Alike.{event-place, standing_apart, hears-silent, all-follow, mixed, mixed-at, mixed-set, Gathered, gathered_next, gathered-all, lines-reach}
+use Rattle.wire_machine.proofs.Stands.{Shows, turn-acts, turn-follows, phys, Stands, begins, shown, length-is, event-next, clock-next}
+use Rattle.wire_machine.proofs.Begins.{lines-filled, lines-small, level-is, put_is, ends}
+use Rattle.wire_machine.proofs.Alike.{event-place, standing_apart, hears-silent, all-follow, mixed, mixed-at, mixed-set, gathered_next, gathered-all, lines-reach}
 use Rattle.wire_machine.proofs.clocks.clock_by_clock.Goals as goal
 use Rattle.wire_machine.proofs.clocks.clock_by_clock.Goals.{then-is_silent, else-is_silent, then-acts, else-acts}
 

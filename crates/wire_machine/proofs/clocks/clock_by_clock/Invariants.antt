@@ -1,40 +1,20 @@
 -- Event by event and clock by clock: the specified PHYs are the board's with their lines put back as they stand, and the log has its records. A clock moves the common follower, or goes line by line.
-use Prim.Native.Nat.{ℕ, suc, ◌+◌, ◌*◌, ◌-◌, ◌≤◌, ◌<◌}
-use mathlib.Core.Path.{◌≡◌, refl, sym, ap, ap₂, subst, ◌∙◌}
-use mathlib.Core.Bool.{true, false}
-use mathlib.Core.List.{List, map}
-use native.Mathlib.Omega.{arith}
-use native.Mathlib.Numerals.{add-one}
-use borrow.Rule.Slice.PartMut.{put_mid}
-use mathlib.Core.Logic.{⊎_elim}
-use lib.ListN.{length, get_or, set, take, replicate, length-map, length-set}
-use borrow.Author.Rules.{rules}
-use Rattle.verdict.specs.File.{byte_at, records}
-use Rattle.verdict.specs.Output.{tabulate}
-use Rattle.verdict.proofs.Outputs.{pieced, filled, fill}
-use Rattle.wire.specs.Wire.{station_drive, level_of}
+use Prim.Native.Nat.{◌+◌, ◌-◌, ◌≤◌}
+use mathlib.Core.Path.{◌≡◌}
+use mathlib.Core.List.{List}
+use lib.ListN.{length, get_or}
+use Rattle.verdict.specs.File.{records}
+use Rattle.verdict.proofs.Outputs.{filled}
 use Rattle.phy.specs.declared.Phy.{Phy}
 use Rattle.phy.specs.Sound.{nowhere}
-use Rattle.phy.specs.Events.{event}
 use Rattle.phy.specs.Clock.{clock}
 use Rattle.board.specs.declared.Board.{Board}
-use Rattle.board.specs.Events.{event_record, event_address, event_code}
-use Rattle.between.specs.Outcome.{phys_of, owns_of}
-use Rattle.between.specs.Events.{at_start}
-use Rattle.between.specs.Happened.{is_due, place_of}
-use Rattle.between.proofs.Places.{replaced, replace-next, length-replaced}
-use Rattle.between.proofs.Happenings.{due-now}
-use Rattle.wire_machine.specs.declared.line.Line.{Line}
-use Rattle.wire_machine.specs.declared.hear.Heard.{Heard}
-use Rattle.wire_machine.specs.declared.common.Common.{Common}
-use Rattle.wire_machine.specs.Lines.{line_of, place_in, no_line, onto, line_acts, line_follows, heard_station, heard_from}
+use Rattle.board.specs.Events.{event_record}
+use Rattle.between.proofs.Places.{replaced}
+use Rattle.wire_machine.specs.Lines.{line_of}
 use Rattle.wire_machine.specs.Common.{stands, standing}
-use Rattle.wire_machine.proofs.Turns.{replaced-all}
-use Rattle.wire_machine.proofs.Lockstep.{drives_in}
-use Rattle.wire_machine.proofs.Accepts.{Goes, goes}
-use Rattle.wire_machine.proofs.Stands.{Shows, turn-acts, turn-follows, phys, piece, Stands, begins, shown, length-is, event-next, clock-next}
-use Rattle.wire_machine.proofs.Begins.{lines-filled, lines-small, log-long, level-is, put_is, ends}
-use Rattle.wire_machine.proofs.Alike.{event-place, standing_apart, hears-silent, all-follow, mixed, mixed-at, mixed-set, Gathered, gathered_next, gathered-all, lines-reach}
+use Rattle.wire_machine.proofs.Stands.{Shows, Stands}
+use Rattle.wire_machine.proofs.Alike.{mixed, Gathered}
 use Rattle.wire_machine.proofs.clocks.clock_by_clock.Given as goal
 
 -- the first places have their lines

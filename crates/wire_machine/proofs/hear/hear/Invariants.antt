@@ -1,13 +1,9 @@
 -- Where the lines are alike, each by the common follower; else line by line, each as it is.
-use Prim.Native.Nat.{◌≤◌, ◌<◌, ◌-◌}
-use mathlib.Core.Path.{◌≡◌, refl, sym, ap, subst, ◌∙◌}
-use native.Mathlib.Omega.{arith}
-use lib.ListN.{length, take, drop}
-use borrow.Author.Rules.{rules}
-use Rattle.verdict.specs.Lists.{All}
-use Rattle.wire_machine.specs.Lines.{heard_station, heard_from}
-use Rattle.wire_machine.specs.Common.{apart, stands, standing}
-use Rattle.wire_machine.proofs.Hearing.{stands_alike, stands-apart, small_at, heard-next, heard_all}
+use Prim.Native.Nat.{◌≤◌, ◌-◌}
+use mathlib.Core.Path.{◌≡◌}
+use lib.ListN.{take, drop}
+use Rattle.wire_machine.specs.Lines.{heard_from}
+use Rattle.wire_machine.specs.Common.{apart, standing}
 use Rattle.wire_machine.proofs.hear.hear.Given as goal
 
 abbrev pub invariant-loop-i : goal.invariant-loop-i

@@ -1,10 +1,8 @@
 -- Line by line, each by the common follower.
-use Prim.Native.Nat.{◌≤◌, ◌-◌}
-use mathlib.Core.Path.{◌≡◌, refl, sym, ap, ◌∙◌}
-use native.Mathlib.Omega.{arith}
-use lib.ListN.{length, take, drop}
+use mathlib.Core.Path.{sym, ap, ◌∙◌}
+use lib.ListN.{take}
 use borrow.Author.Rules.{rules}
-use Rattle.wire_machine.specs.Lines.{heard_station, heard_from}
+use Rattle.wire_machine.specs.Lines.{heard_from}
 use Rattle.wire_machine.specs.Common.{alike_by, stands, standing}
 use Rattle.wire_machine.proofs.Hearing.{small_at, heard-next, heard_all}
 use Rattle.wire_machine.proofs.hear.hear_alike.Goals as goal

@@ -1,12 +1,9 @@
 -- Line by line, each by the common follower.
 use Prim.Native.Nat.{◌≤◌, ◌-◌}
-use mathlib.Core.Path.{◌≡◌, refl, sym, ap, ◌∙◌}
-use native.Mathlib.Omega.{arith}
-use lib.ListN.{length, take, drop}
-use borrow.Author.Rules.{rules}
-use Rattle.wire_machine.specs.Lines.{heard_station, heard_from}
-use Rattle.wire_machine.specs.Common.{alike_by, stands, standing}
-use Rattle.wire_machine.proofs.Hearing.{small_at, heard-next, heard_all}
+use mathlib.Core.Path.{◌≡◌}
+use lib.ListN.{take, drop}
+use Rattle.wire_machine.specs.Lines.{heard_from}
+use Rattle.wire_machine.specs.Common.{alike_by, standing}
 use Rattle.wire_machine.proofs.hear.hear_alike.Given as goal
 
 abbrev pub invariant-loop-i : goal.invariant-loop-i

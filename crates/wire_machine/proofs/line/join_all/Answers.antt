@@ -1,16 +1,14 @@
 -- Place by place: after i turns the first i PHYs have their lines again.
-use Prim.Native.Nat.{◌≤◌, ◌-◌}
 use mathlib.Core.Path.{◌≡◌, refl, sym, ap, ◌∙◌}
 use native.Mathlib.Omega.{arith}
-use lib.ListN.{length, get_or, length-map}
+use lib.ListN.{length, get_or}
 use borrow.Author.Rules.{rules}
 use Rattle.verdict.specs.Output.{tabulate}
-use Rattle.verdict.proofs.Outputs.{filled}
 use Rattle.phy.specs.Sound.{nowhere}
 use Rattle.wire_machine.specs.Lines.{no_line, onto}
 use Rattle.wire_machine.specs.Common.{stands, standing}
 use Rattle.between.proofs.Filling.{map_at}
-use Rattle.wire_machine.proofs.Turns.{rejoined, join-next, join-end}
+use Rattle.wire_machine.proofs.Turns.{join-next, join-end}
 use Rattle.wire_machine.proofs.line.join_all.Goals as goal
 
 pub loop-i-init : goal.loop-i-init

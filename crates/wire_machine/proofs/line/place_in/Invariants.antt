@@ -1,13 +1,8 @@
 -- Line by line: none of those passed has the address, so it is found among the ones that are left.
-use Prim.Native.Nat.{◌-◌, ◌<◌, min}
-use mathlib.Core.Path.{◌≡◌}
-use native.Mathlib.Omega.{arith}
+use Prim.Native.Nat.{◌-◌}
 use lib.Dec.{eqb}
-use lib.ListN.{length, take}
-use borrow.Author.Rules.{rules}
-use borrow.Author.Tests.{eq-eqb, ne_eqb}
-use Rattle.between.proofs.Finding.{Among, found_here, found-later, found_nowhere}
-use Rattle.wire_machine.specs.Lines.{no_line}
+use lib.ListN.{take}
+use Rattle.between.proofs.Finding.{Among}
 use Rattle.wire_machine.proofs.line.place_in.Given as goal
 
 abbrev pub invariant-loop-i : goal.invariant-loop-i

@@ -1,6 +1,5 @@
 -- The common follower moves as each line's would.
 use Rattle.wire_machine.specs.Common.{common_follows}
-use borrow.Author.Rules.{rules}
 use Rattle.wire_machine.proofs.common.Common.follows.Goals as goal
 
 pub returns : goal.returns

@@ -2,8 +2,6 @@
 use mathlib.Core.Path.{◌≡◌, refl, sym, ap, ◌∙◌}
 use mathlib.Core.Bool.{Bool, true, false, ◌&&◌, not, and-true}
 use borrow.Author.Tests.{lt-ltb, le-ltb, lt-leb, le-leb}
-use borrow.Author.Rules.{rules}
-use Rattle.wire.specs.Follower.{header_of}
 use Rattle.wire_machine.specs.Common.{asks_to_read, silent_in}
 use Rattle.wire_machine.proofs.common.Common.is_silent.Goals as goal
 

@@ -1,10 +1,9 @@
 -- The common follower says whether a frame may start, whether a header ends that asks to read, and whether a frame ends.
-use mathlib.Core.Path.{◌≡◌, ap, ◌∙◌}
-use mathlib.Core.Bool.{Bool, false, ◌&&◌, not}
+use mathlib.Core.Path.{ap, ◌∙◌}
+use mathlib.Core.Bool.{◌&&◌, not}
 use native.Mathlib.Nat.{div-one}
 use lib.Dec.{eqb}
-use borrow.Author.Rules.{rules}
-use Rattle.wire.specs.Follower.{one_more, header_of}
+use Rattle.wire.specs.Follower.{header_of}
 use Rattle.wire_machine.specs.Common.{asks_to_read, moves_alike_in}
 use Rattle.wire_machine.proofs.common.Common.moves_alike.Goals as goal
 

@@ -1,5 +1,4 @@
 -- Where the lines are alike the follower is the common one.
-use borrow.Author.Rules.{rules}
 use Rattle.wire_machine.specs.Common.{stands}
 use Rattle.wire_machine.proofs.common.Common.stands.Goals as goal
 

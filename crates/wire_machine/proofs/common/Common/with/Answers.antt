@@ -1,6 +1,5 @@
 -- Its follower is held against the common one.
 use Rattle.wire_machine.specs.Common.{common_with}
-use borrow.Author.Rules.{rules}
 use Rattle.wire_machine.proofs.common.Common.with.Goals as goal
 
 pub returns : goal.returns

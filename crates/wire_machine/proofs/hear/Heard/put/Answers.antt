@@ -3,13 +3,11 @@ use Prim.Native.Nat.{◌+◌, ◌*◌, ◌≤◌}
 use mathlib.Core.Path.{◌≡◌, ap, ◌∙◌}
 use mathlib.Core.List.{◌∷◌, ◌++◌}
 use native.Mathlib.Omega.{arith}
-use lib.ListN.{length, drop_of_length-le, length-set}
+use lib.ListN.{length, drop_of_length-le}
 use lib.Seq.{sets-eq}
 use Rattle.wire.specs.Wire.{as_bit}
 use Rattle.wire_machine.specs.Log.{four_bytes}
 use Rattle.wire_machine.specs.Lines.{record_of}
-use Rattle.wire.proofs.Levels.{bit-small}
-use borrow.Author.Rules.{rules}
 use Rattle.wire_machine.proofs.hear.Heard.put.Goals as goal
 
 pub returns : goal.returns

@@ -1,7 +1,6 @@
 -- What the PHY drives decides: a PHY that drives joins the level, the count and the mask.
-use borrow.Author.Rules.{rules}
 use Prim.Native.Nat.{ℕ}
-use mathlib.Core.Path.{sym, ap, ◌∙◌}
+use mathlib.Core.Path.{ap}
 use mathlib.Core.Bool.{true, ◌&&◌, ◌||◌}
 use Rattle.wire_machine.specs.Lines.{hears_drive}
 use Rattle.wire_machine.proofs.Lines.{mark_set}

@@ -1,5 +1,4 @@
 -- The bits seen say whether the next one may end an own read's header or ends an own write.
-use borrow.Author.Rules.{rules}
 use Prim.Native.Nat.{◌/◌, ◌^◌}
 use mathlib.Core.Path.{sym, ap, ◌∙◌}
 use native.Mathlib.Nat.{div-one}

@@ -1,6 +1,5 @@
 -- The follower moves by the level, and the word stays unless the frame ends.
 use Rattle.wire_machine.specs.Lines.{line_follows}
-use borrow.Author.Rules.{rules}
 use Rattle.wire_machine.proofs.line.Line.follows.Goals as goal
 
 pub returns : goal.returns
