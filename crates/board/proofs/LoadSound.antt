@@ -57,9 +57,9 @@ module _ (file : List ℕ) (n : ℕ) (done : board_verdict file ≡ Done n) wher
   unfolding record_fault
   record-passes k l = no-fault-passes _ _ _ ((accepted board_record places (record_fault file) file n done).all_pass k l)
 
-  words_right_lem : (k : ℕ) → k < n → words_right (word (defaults_at file k) 0) (word (defaults_at file k) 1) (word (defaults_at file k) 15) ≡ true
+  words-right : (k : ℕ) → k < n → words_right (word (defaults_at file k) 0) (word (defaults_at file k) 1) (word (defaults_at file k) 15) ≡ true
   unfolding defaults_right
-  words_right_lem k l =
+  words-right k l =
       let r = record_at file k in
       let words = words_right (word r.defaults 0) (word r.defaults 1) (word r.defaults 15) in
       let idle = both (unimplemented_zero r.own.implemented r.defaults r.masks) (masks_zero r.masks && words) (record-passes k l).defaults-right in
@@ -78,7 +78,7 @@ module _ (file : List ℕ) (n : ℕ) (done : board_verdict file ≡ Done n) wher
         set-right = passes.set-right;
         defaults-right = passes.defaults-right;
       }) in
-      rw (lt-leb n k l, place-fresh k l, used, fault) (fresh-sound r.own r.defaults r.masks (words_right_lem k l))
+      rw (lt-leb n k l, place-fresh k l, used, fault) (fresh-sound r.own r.defaults r.masks (words-right k l))
 
   load-places : Sound (board_of n (phy_at file))
   unfolding board_of
