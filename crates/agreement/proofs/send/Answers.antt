@@ -1,0 +1,19 @@
+-- 12 and the list's refusals come first; what passes is translated whole, since there is room for the longest list, and its run is what is sent.
+use borrow.Author.Rules.{rules}
+use mathlib.Core.Path.{◌≡◌, sym, ◌∙◌}
+use Rattle.verdict.specs.declared.Verdict.TheVariants.{Done}
+use Rattle.board.specs.Check.{checked}
+use Rattle.between.proofs.Laws.{refuses-back}
+use Rattle.agreement.proofs.ExchangeCalls.{stepped, not-stepped, sent-by-run}
+use Rattle.agreement.proofs.send.Goals as goal
+
+pub returns-in_default-translated : goal.returns-in_default-translated
+returns-in_default-translated c =
+    let sound : checked c.args.board ≡ Done c.in-Done.field-0 = sym c.check-sound.ensures ∙ c.in-Done.is in
+    let refused = not-stepped _ (sym c.room_for_steps-steps.ensures) c.translate-translated.ensures c.in_default-translated.is in
+    rw c.of-in_default-translated.ensures (refuses-back (rw (sound, refused)) c.in_default-translated.is)
+
+pub returns : goal.returns
+returns c =
+    let list = stepped _ (sym c.room_for_steps-steps.ensures) c.translate-translated.ensures c.in-Done-translated.is in
+    sent-by-run _ _ _ list.accepted list.steps.bytes c.run.ensures
