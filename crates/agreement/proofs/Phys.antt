@@ -6,7 +6,6 @@ use mathlib.Core.List.{List}
 use native.Mathlib.Omega.{arith}
 use lib.ListN.{length, get_or}
 use Rattle.verdict.proofs.Elements.{count-one}
-use Rattle.wire.specs.declared.Header.{Header}
 use Rattle.wire.specs.Follower.{answering}
 use Rattle.phy.specs.declared.Phy.{Phy}
 use Rattle.phy.specs.Own.{takes, answers}

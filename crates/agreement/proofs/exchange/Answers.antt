@@ -1,8 +1,7 @@
 -- There is room for every log: so what is refused after `send` is refused for the answers' room alone, and the decoder gets the log of the run.
 use mathlib.Core.Path.{sym, ◌∙◌}
 use Rattle.between.proofs.Laws.{refuses-back}
-use Rattle.agreement.proofs.ExchangeCalls.{planning-sends, logged, not-logged, exchanged, not-decoded}
-use borrow.Author.Rules.{rules}
+use Rattle.agreement.proofs.ExchangeCalls.{planning-sends, logged, not-logged, exchanged}
 use Rattle.agreement.proofs.exchange.Goals as goal
 
 pub returns-in_default : goal.returns-in_default

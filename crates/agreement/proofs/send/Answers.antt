@@ -1,5 +1,4 @@
 -- 12 and the list's refusals come first; what passes is translated whole, since there is room for the longest list, and its run is what is sent.
-use borrow.Author.Rules.{rules}
 use mathlib.Core.Path.{◌≡◌, sym, ◌∙◌}
 use Rattle.verdict.specs.declared.Verdict.TheVariants.{Done}
 use Rattle.board.specs.Check.{checked}
