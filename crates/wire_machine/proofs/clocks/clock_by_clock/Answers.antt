@@ -3,9 +3,11 @@ use Rattle.std.proofs.Common.{ℕ, ◌+◌, ◌*◌, ◌-◌, ◌≤◌, ◌<◌
 use native.Mathlib.Numerals.{add-one}
 use borrow.Rule.Slice.PartMut.{put_mid}
 use lib.ListN.{replicate}
+use Rattle.verdict.specs.declared.Verdict.TheVariants.{Done}
 use Rattle.verdict.specs.File.{byte_at}
 use Rattle.verdict.specs.Output.{tabulate}
 use Rattle.verdict.proofs.Outputs.{filled, fill}
+use Rattle.frame.specs.Frame.{log_record}
 use Rattle.wire.specs.declared.Drive.{Drive}
 use Rattle.wire.specs.Wire.{station_drive}
 use Rattle.phy.specs.Sound.{nowhere}
@@ -22,6 +24,7 @@ use Rattle.wire_machine.specs.declared.hear.Heard.{Heard}
 use Rattle.wire_machine.specs.declared.common.Common.{Common}
 use Rattle.wire_machine.specs.Lines.{line_of, place_in, no_line, onto, line_acts, line_follows, heard_station, heard_from, record_of}
 use Rattle.wire_machine.specs.Common.{stands, standing}
+use Rattle.wire_machine.specs.Run.{running}
 use Rattle.wire_machine.proofs.Turns.{replaced-all}
 use Rattle.wire_machine.proofs.Accepts.{Goes, goes}
 use Rattle.wire_machine.proofs.Stands.{Shows, turn-acts, turn-follows, phys, Stands, begins, shown, length-is, event-next, clock-next}
@@ -29,6 +32,10 @@ use Rattle.wire_machine.proofs.Begins.{lines-filled, lines-small, level-is, put_
 use Rattle.wire_machine.proofs.Alike.{event-place, standing_apart, hears-silent, all-follow, mixed, mixed-at, mixed-set, gathered_next, gathered-all, lines-reach}
 use Rattle.wire_machine.proofs.clocks.clock_by_clock.Goals as goal
 use Rattle.wire_machine.proofs.clocks.clock_by_clock.Goals.{then-is_silent, else-is_silent, then-acts, else-acts}
+
+-- where a run is not refused its board uses 32 places at most
+few-places : (board : Board) (steps events log : List ℕ) → length board.phys ≡ 32 → running board steps events log ≡ Done (length steps * log_record) → board.count ≤ 32
+few-places board steps events log long e = (goes board steps events log _ long e).sound.at_most
 
 -- A run that is not refused, after some clocks and events
 module _ {board : Board} {steps events log₀ : List ℕ} (run : Goes board steps events log₀) {log : List ℕ} {now : Board} {next c : ℕ} (common : Common) (lines : List Line) (stands-so : Stands events steps log₀ board log now next (standing common lines) c) where
@@ -67,24 +74,16 @@ unfolding tabulate
 loop-place-init c = (omega arith, refl)
 
 pub offset_bounds-board-place : goal.offset_bounds-board-place
-offset_bounds-board-place c =
-    let run : Goes c.args.board c.args.steps.now c.args.events.now c.args.log.now = goes _ _ _ _ _ (search rules) c.requires in
-    omega (arith, run.sound.at_most)
+offset_bounds-board-place c = omega (arith, few-places c.args.board c.args.steps.now c.args.events.now c.args.log.now (search rules) c.requires)
 
 pub bounds-board-place : goal.bounds-board-place
-bounds-board-place c =
-    let run : Goes c.args.board c.args.steps.now c.args.events.now c.args.log.now = goes _ _ _ _ _ (search rules) c.requires in
-    omega (arith, run.sound.at_most)
+bounds-board-place c = omega (arith, few-places c.args.board c.args.steps.now c.args.events.now c.args.log.now (search rules) c.requires)
 
 pub offset_bounds-lines-place : goal.offset_bounds-lines-place
-offset_bounds-lines-place c =
-    let run : Goes c.args.board c.args.steps.now c.args.events.now c.args.log.now = goes _ _ _ _ _ (search rules) c.requires in
-    omega (arith, run.sound.at_most)
+offset_bounds-lines-place c = omega (arith, few-places c.args.board c.args.steps.now c.args.events.now c.args.log.now (search rules) c.requires)
 
 pub bounds-lines-place : goal.bounds-lines-place
-bounds-lines-place c =
-    let run : Goes c.args.board c.args.steps.now c.args.events.now c.args.log.now = goes _ _ _ _ _ (search rules) c.requires in
-    omega (arith, run.sound.at_most)
+bounds-lines-place c = omega (arith, few-places c.args.board c.args.steps.now c.args.events.now c.args.log.now (search rules) c.requires)
 
 pub loop-place-preserved : goal.loop-place-preserved
 loop-place-preserved c =
@@ -175,64 +174,40 @@ loop-lines-preserved-then-moves_alike c =
     rw c.follows-common.ensures (clocked run loop.common loop.lines loop.invariant none c.if-steps-c.false c.if-is_silent.heard _ c.station_drive-drive.ensures all _ c.put.ensures _ _ moved)
 
 pub offset_bounds-lines-i : goal.offset_bounds-lines-i
-offset_bounds-lines-i c =
-    let run : Goes c.args.board c.args.steps.now c.args.events.now c.args.log.now = goes _ _ _ _ _ (search rules) c.requires in
-    omega (arith, run.sound.at_most)
+offset_bounds-lines-i c = omega (arith, few-places c.args.board c.args.steps.now c.args.events.now c.args.log.now (search rules) c.requires)
 
 pub bounds-lines-i : goal.bounds-lines-i
-bounds-lines-i c =
-    let run : Goes c.args.board c.args.steps.now c.args.events.now c.args.log.now = goes _ _ _ _ _ (search rules) c.requires in
-    omega (arith, run.sound.at_most)
+bounds-lines-i c = omega (arith, few-places c.args.board c.args.steps.now c.args.events.now c.args.log.now (search rules) c.requires)
 
 pub offset_bounds-board-i-then-acts : goal.offset_bounds-board-i-then-acts
-offset_bounds-board-i-then-acts c =
-    let run : Goes c.args.board c.args.steps.now c.args.events.now c.args.log.now = goes _ _ _ _ _ (search rules) c.requires in
-    omega (arith, run.sound.at_most)
+offset_bounds-board-i-then-acts c = omega (arith, few-places c.args.board c.args.steps.now c.args.events.now c.args.log.now (search rules) c.requires)
 
 pub bounds-board-i-then-acts : goal.bounds-board-i-then-acts
-bounds-board-i-then-acts c =
-    let run : Goes c.args.board c.args.steps.now c.args.events.now c.args.log.now = goes _ _ _ _ _ (search rules) c.requires in
-    omega (arith, run.sound.at_most)
+bounds-board-i-then-acts c = omega (arith, few-places c.args.board c.args.steps.now c.args.events.now c.args.log.now (search rules) c.requires)
 
 pub offset_bounds-board-i-then-acts-2 : goal.offset_bounds-board-i-then-acts-2
-offset_bounds-board-i-then-acts-2 c =
-    let run : Goes c.args.board c.args.steps.now c.args.events.now c.args.log.now = goes _ _ _ _ _ (search rules) c.requires in
-    omega (arith, run.sound.at_most)
+offset_bounds-board-i-then-acts-2 c = omega (arith, few-places c.args.board c.args.steps.now c.args.events.now c.args.log.now (search rules) c.requires)
 
 pub bounds-board-i-then-acts-2 : goal.bounds-board-i-then-acts-2
-bounds-board-i-then-acts-2 c =
-    let run : Goes c.args.board c.args.steps.now c.args.events.now c.args.log.now = goes _ _ _ _ _ (search rules) c.requires in
-    omega (arith, run.sound.at_most)
+bounds-board-i-then-acts-2 c = omega (arith, few-places c.args.board c.args.steps.now c.args.events.now c.args.log.now (search rules) c.requires)
 
 pub offset_bounds-lines-i-then-acts : goal.offset_bounds-lines-i-then-acts
-offset_bounds-lines-i-then-acts c =
-    let run : Goes c.args.board c.args.steps.now c.args.events.now c.args.log.now = goes _ _ _ _ _ (search rules) c.requires in
-    omega (arith, run.sound.at_most)
+offset_bounds-lines-i-then-acts c = omega (arith, few-places c.args.board c.args.steps.now c.args.events.now c.args.log.now (search rules) c.requires)
 
 pub bounds-lines-i-then-acts : goal.bounds-lines-i-then-acts
-bounds-lines-i-then-acts c =
-    let run : Goes c.args.board c.args.steps.now c.args.events.now c.args.log.now = goes _ _ _ _ _ (search rules) c.requires in
-    omega (arith, run.sound.at_most)
+bounds-lines-i-then-acts c = omega (arith, few-places c.args.board c.args.steps.now c.args.events.now c.args.log.now (search rules) c.requires)
 
 pub offset_bounds-lines-i-else-acts : goal.offset_bounds-lines-i-else-acts
-offset_bounds-lines-i-else-acts c =
-    let run : Goes c.args.board c.args.steps.now c.args.events.now c.args.log.now = goes _ _ _ _ _ (search rules) c.requires in
-    omega (arith, run.sound.at_most)
+offset_bounds-lines-i-else-acts c = omega (arith, few-places c.args.board c.args.steps.now c.args.events.now c.args.log.now (search rules) c.requires)
 
 pub bounds-lines-i-else-acts : goal.bounds-lines-i-else-acts
-bounds-lines-i-else-acts c =
-    let run : Goes c.args.board c.args.steps.now c.args.events.now c.args.log.now = goes _ _ _ _ _ (search rules) c.requires in
-    omega (arith, run.sound.at_most)
+bounds-lines-i-else-acts c = omega (arith, few-places c.args.board c.args.steps.now c.args.events.now c.args.log.now (search rules) c.requires)
 
 pub offset_bounds-lines-i-in-loop-i : goal.offset_bounds-lines-i-in-loop-i
-offset_bounds-lines-i-in-loop-i c =
-    let run : Goes c.args.board c.args.steps.now c.args.events.now c.args.log.now = goes _ _ _ _ _ (search rules) c.requires in
-    omega (arith, run.sound.at_most)
+offset_bounds-lines-i-in-loop-i c = omega (arith, few-places c.args.board c.args.steps.now c.args.events.now c.args.log.now (search rules) c.requires)
 
 pub bounds-lines-i-in-loop-i : goal.bounds-lines-i-in-loop-i
-bounds-lines-i-in-loop-i c =
-    let run : Goes c.args.board c.args.steps.now c.args.events.now c.args.log.now = goes _ _ _ _ _ (search rules) c.requires in
-    omega (arith, run.sound.at_most)
+bounds-lines-i-in-loop-i c = omega (arith, few-places c.args.board c.args.steps.now c.args.events.now c.args.log.now (search rules) c.requires)
 
 pub loop-i-preserved : goal.loop-i-preserved
 loop-i-preserved c =
