@@ -37,14 +37,14 @@ loop-i-preserved c =
     let place = c.loop-i.found * 6 in
     record-more capture writing out now hunted over answer one
     (elim c.if-writing.branch [
-      then-writing w ↦
-        let few = one_of capture writing out now hunted over answer one in
-        let long = room-kept capture writing out now c.requires in
-        let within : place + 6 ≤ length c.loop-i.answers = omega (arith, few, long, c.requires w.if-writing.true) in
-        w.answers-is
-        ∙ ap (put_mid place (place + 6 - place) c.loop-i.answers) (w.put.ensures ∙ put-fills _ answer (six c.loop-i.answers place within))
-        ∙ put-more capture writing out now hunted over answer one w.if-writing.true
-    | else-writing w ↦ w.answers-is ∙ count-more capture writing out now hunted over answer one w.if-writing.false
+      | then-writing w ↦
+          let few = one_of capture writing out now hunted over answer one in
+          let long = room-kept capture writing out now c.requires in
+          let within : place + 6 ≤ length c.loop-i.answers = omega (arith, few, long, c.requires w.if-writing.true) in
+          w.answers-is
+          ∙ ap (put_mid place (place + 6 - place) c.loop-i.answers) (w.put.ensures ∙ put-fills _ answer (six c.loop-i.answers place within))
+          ∙ put-more capture writing out now hunted over answer one w.if-writing.true
+      | else-writing w ↦ w.answers-is ∙ count-more capture writing out now hunted over answer one w.if-writing.false
     ])
 
 pub returns : goal.returns

@@ -1,8 +1,7 @@
 -- A listener that hunts ends no frame, and where it hunts no more it has heard the 0 of a start.
 use Prim.Native.Nat.{◌-◌}
 use lib.ListN.{length}
-use Rattle.listener.proofs.Passes.{Hunts, hunts-first, still-hunts, starts, hunts-to-end}
-use borrow.Author.Rules.{rules}
+use Rattle.listener.proofs.Passes.{Hunts}
 use Rattle.listener.proofs.next_start.Given as goal
 
 abbrev pub invariant-loop-i : goal.invariant-loop-i

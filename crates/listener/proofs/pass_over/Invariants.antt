@@ -1,8 +1,7 @@
 -- A listener that stays inside a frame has not ended it; where it hunts again the frame has given what its last clock gave.
 use Prim.Native.Nat.{◌-◌}
 use lib.ListN.{length}
-use Rattle.listener.proofs.Passes.{InFrame, in-frame-first, still-inside, leaves, cut_off}
-use borrow.Author.Rules.{rules}
+use Rattle.listener.proofs.Passes.{InFrame}
 use Rattle.listener.proofs.pass_over.Given as goal
 
 abbrev pub invariant-loop-i : goal.invariant-loop-i
