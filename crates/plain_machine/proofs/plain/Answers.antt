@@ -41,5 +41,5 @@ pub transact_all-after-requires : goal.transact_all-after-requires
 transact_all-after-requires c =
     let at = goal.at.transact_all-after-requires c in
     let accepted : planning c.args.board c.args.list.now c.args.events.now c.args.answers.now ≡ Done (c.in-Done-listed.count * 6) =
-        rw (sound at.In-Done, listed at.In-Done-listed, happening at.In-Done-happening, le-ltb _ _ c.if-answers-size.false) in
+    rw (sound at.In-Done, listed at.In-Done-listed, happening at.In-Done-happening, le-ltb _ _ c.if-answers-size.false) in
     accepted ∙ ap (λ n. Done (n * 6)) (counted at.In-Done-listed).0
