@@ -1,6 +1,6 @@
 -- A transaction acts at one place: that of the PHY that takes its address. Nobody else answers it, and it does nothing to anybody else.
 use Prim.Native.Nat.{ℕ, zero, suc, ◌+◌, ◌≤◌, ◌<◌}
-use mathlib.Core.Path.{◌≡◌, refl, sym, ap, ap₂, ◌∙◌}
+use mathlib.Core.Path.{◌≡◌, refl, sym, ap, ◌∙◌}
 use mathlib.Core.Bool.{Bool, true, false, cond}
 use mathlib.Core.List.{List, [], ◌∷◌, map}
 use native.Mathlib.Omega.{arith}
@@ -11,8 +11,7 @@ use Rattle.frame.specs.declared.answer.Answer.{Answer}
 use Rattle.frame.specs.Frame.{preamble, clocks}
 use Rattle.frame.specs.List.{is_read}
 use Rattle.frame.specs.Answers.{sent, silent, answer_to}
-use Rattle.wire.specs.declared.Header.{Header}
-use Rattle.wire.specs.Machines.{header_for, before_reads, before_writes, quiet, read_of, plain_answer, left_by_read, left_by_write, plain_after}
+use Rattle.wire.specs.Machines.{header_for, before_reads, before_writes, quiet, read_of, plain_answer, plain_after}
 use Rattle.phy.specs.declared.Phy.{Phy}
 use Rattle.phy.specs.Sound.{nowhere}
 use Rattle.phy.specs.Own.{takes, answers, stores}

@@ -1,23 +1,23 @@
 -- What stands before each transaction acts, and after each event: the events that are left up to that clock, one after the other, make of the PHYs what the plain machine says.
 use Prim.Native.Nat.{ℕ, zero, suc, ◌+◌, ◌-◌, ◌*◌, ◌≤◌, ◌<◌}
-use mathlib.Core.Path.{◌≡◌, refl, sym, ap, ap₂, subst, ◌∙◌}
+use mathlib.Core.Path.{◌≡◌, refl, sym, ap, subst, ◌∙◌}
 use mathlib.Core.Bool.{Bool, true, false, cond}
 use mathlib.Core.List.{List, [], ◌∷◌, ◌++◌, map}
 use native.Mathlib.Omega.{arith}
 use native.Mathlib.Decide.{ℕ_discrete}
 use lib.Dec.{eqb}
-use lib.ListN.{length, get_or, set, take, drop, length-map}
+use lib.ListN.{length, get_or, set}
 use Rattle.verdict.specs.File.{records}
 use Rattle.verdict.specs.Output.{tabulate, join}
 use Rattle.verdict.proofs.Lists.{map-tabulate}
 use Rattle.verdict.proofs.Outputs.{pieced}
 use Rattle.verdict.proofs.Elements.{map-then}
 use Rattle.frame.specs.declared.list.Transaction.{Transaction}
-use Rattle.frame.specs.declared.list.Parse.TheVariants.{Good, Bad}
+use Rattle.frame.specs.declared.list.Parse.TheVariants.{Good}
 use Rattle.frame.specs.Frame.{clocks}
 use Rattle.frame.specs.List.{list_record, is_read, transaction_at, parsed}
 use Rattle.frame.specs.Answers.{answer_bytes}
-use Rattle.wire.specs.Machines.{header_for, quiet, plain_answer, plain_after, plain_parties}
+use Rattle.wire.specs.Machines.{header_for, quiet, plain_parties}
 use Rattle.wire.proofs.Quiet.{quiet-append}
 use Rattle.phy.specs.declared.Phy.{Phy}
 use Rattle.phy.specs.Sound.{nowhere}
@@ -31,7 +31,7 @@ use Rattle.between.specs.Outcome.{phys_of, with_phys, owns_of}
 use Rattle.between.specs.Events.{at_start}
 use Rattle.between.specs.Happened.{is_due, place_of, event_on, happened}
 use Rattle.between.proofs.Places.{with-own}
-use Rattle.between.proofs.Happenings.{Rising, Reached, reached-start, due-now, due-later, to_come, all-to-come, none-to-come, quiet-clocks, happened-next, happened-stop}
+use Rattle.between.proofs.Happenings.{Rising, Reached, reached-start, due-now, due-later, all-to-come, none-to-come, quiet-clocks, happened-next, happened-stop}
 use Rattle.between.proofs.EventPlaces.{OneTakes, owns-length, event-there}
 use Rattle.plain_machine.specs.Plain.{core_with, answers_of_plain}
 use Rattle.plain_machine.specs.Transact.{clocks_before, lead_of, after_act, answer_of}

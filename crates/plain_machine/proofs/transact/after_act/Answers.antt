@@ -1,6 +1,5 @@
 -- By the op, the effect of the header or of the frame.
 use mathlib.Core.Path.{ap, ◌∙◌}
-use borrow.Author.Rules.{rules}
 use borrow.Author.Tests.{eq-eqb, ne_eqb}
 use Rattle.phy.specs.Clock.{after_header, after_frame}
 use Rattle.plain_machine.specs.Transact.{after_act}

@@ -1,7 +1,7 @@
 -- A PHY that answers is asked by a read; one that does not answers as nobody does.
 use mathlib.Core.Path.{◌≡◌, refl, sym, ap, ◌∙◌}
 use mathlib.Core.Bool.{Bool, true, false}
-use borrow.Author.Tests.{eq-eqb, eqb-false}
+use borrow.Author.Tests.{eqb-false}
 use Rattle.frame.specs.declared.list.Transaction.{Transaction}
 use Rattle.frame.specs.List.{is_read}
 use Rattle.frame.specs.Answers.{answer_to}
@@ -10,7 +10,6 @@ use Rattle.phy.specs.declared.Phy.{Phy}
 use Rattle.phy.specs.Fields.{register_of}
 use Rattle.phy.specs.Own.{answers}
 use Rattle.phy.proofs.Headers.{answers-reads-only}
-use borrow.Author.Rules.{rules}
 use Rattle.plain_machine.specs.Transact.{answer_of}
 use Rattle.plain_machine.proofs.transact.answer_of.Goals as goal
 

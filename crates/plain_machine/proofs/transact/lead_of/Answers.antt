@@ -1,8 +1,6 @@
 -- By the op of a good record.
-use mathlib.Core.Path.{◌≡◌, sym, ap, ◌∙◌}
-use borrow.Author.Rules.{rules}
 use borrow.Author.Tests.{eq-eqb, ne_eqb}
-use Rattle.plain_machine.specs.Transact.{clocks_before, lead_of}
+use Rattle.plain_machine.specs.Transact.{clocks_before}
 use Rattle.plain_machine.proofs.transact.lead_of.Goals as goal
 
 pub returns-then-transaction-eq-READ : goal.returns-then-transaction-eq-READ

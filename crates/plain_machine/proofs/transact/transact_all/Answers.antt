@@ -5,8 +5,7 @@ use mathlib.Core.Bool.{true, false}
 use mathlib.Core.List.{List, [], ◌∷◌, map}
 use native.Mathlib.Omega.{arith}
 use native.Mathlib.Decide.{ℕ_discrete}
-use lib.ListN.{length, get_or, set, take, length-map}
-use borrow.Author.Rules.{rules}
+use lib.ListN.{length, get_or, set, take}
 use borrow.Rule.Slice.PartMut.{put_mid}
 use Rattle.verdict.specs.File.{records}
 use Rattle.verdict.specs.Output.{join, written}
@@ -22,14 +21,14 @@ use Rattle.phy.specs.Sound.{nowhere}
 use Rattle.phy.specs.Events.{event}
 use Rattle.phy.specs.Own.{takes}
 use Rattle.board.specs.declared.Board.{Board}
-use Rattle.board.specs.Events.{event_record, event_address, event_code}
+use Rattle.board.specs.Events.{event_record, event_address}
 use Rattle.between.specs.Outcome.{phys_of, with_phys, owns_of}
 use Rattle.between.specs.Happened.{is_due, place_of, taker_of}
 use Rattle.between.proofs.Places.{take-map}
 use Rattle.between.proofs.Finding.{first-map}
 use Rattle.between.proofs.Happenings.{due-now}
 use Rattle.between.proofs.EventPlaces.{OneTakes, one-takes}
-use Rattle.plain_machine.specs.Transact.{clocks_before, lead_of, after_act, answer_of}
+use Rattle.plain_machine.specs.Transact.{lead_of, after_act, answer_of}
 use Rattle.plain_machine.proofs.Acting.{few-before, taker, answered-there, acted-there, answered-nowhere, acted-nowhere}
 use Rattle.plain_machine.proofs.Accepts.{Goes, goes}
 use Rattle.plain_machine.proofs.Stands.{lead, clock, piece, Stands, begins, waiting-full, stands_at, set_at, event-next, ends, answer-next, act-next, planned-answers}

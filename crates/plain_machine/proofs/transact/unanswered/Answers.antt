@@ -1,6 +1,4 @@
 -- By the op, silence or what was sent.
-use mathlib.Core.Path.{◌∙◌}
-use borrow.Author.Rules.{rules}
 use borrow.Author.Tests.{eq-eqb, ne_eqb}
 use Rattle.plain_machine.specs.Transact.{answer_of}
 use Rattle.plain_machine.proofs.transact.unanswered.Goals as goal
