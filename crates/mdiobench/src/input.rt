@@ -1,5 +1,5 @@
 // The program's inputs, of any length, each read into a buffer of one record more than the documents allow. A read that fails
-// ends its input, as the end of a file does.
+// fills no more of its buffer, as the end of a file does.
 ghost use Rattle.std.specs.Prelude.{◌≡◌, ◌+◌, ◌%◌, ◌≤◌, ◌<◌, length};
 ghost use Rattle.mdiobench.specs.Input.{IsPrefixLen, stand_in};
 
