@@ -7,8 +7,8 @@ ghost use Rattle.between.specs.Happened.{place_of, taker_of};
 use board::Board;
 use phy::Own;
 
-// Who frames are for, place by place. It stands as a call of its own, which looks at the caller's board: inlined, it would put one board
-// more on the stack of the machine without a wire.
+// Who frames are for, place by place. A call reads the caller's board where it lies; inlined, the compiler copies the board first, and the
+// plain machine then needs the stack of one board more.
 #[inline(never)]
 pub fn owns_of(board: Board) -> [Own; 32]
     ensures { result ≡ owns_of board.phys }

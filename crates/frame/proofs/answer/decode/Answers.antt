@@ -1,7 +1,7 @@
 -- Transaction by transaction: after k turns the output begins with the first k answers.
-use Prim.Native.Nat.{ℕ, ◌+◌, ◌≤◌}
+use Prim.Native.Nat.{ℕ, ◌+◌}
 use mathlib.Core.Path.{◌≡◌, refl, ap, ap₂, sym, ◌∙◌}
-use mathlib.Core.List.{List, map}
+use mathlib.Core.List.{map}
 use native.Mathlib.Omega.{arith}
 use borrow.Author.Tests.{le-ltb, eq-eqb}
 use Rattle.verdict.specs.declared.Verdict.TheVariants.{Done}
@@ -15,14 +15,9 @@ use Rattle.frame.specs.Answers.{answer_bytes, answer_in}
 use Rattle.frame.proofs.Lists.{good-is-own, put-fills, accepted-list, accepted-not-bad}
 use Rattle.frame.proofs.answer.decode.Invariants.{piece}
 use Rattle.frame.proofs.answer.decode.Goals as goal
-use Rattle.verdict.specs.declared.Verdict.{Verdict}
-
--- an accepted list has few transactions
-few : (list : List ℕ) (r : Verdict) (n : ℕ) → r ≡ list_verdict list → r ≡ Done n → n ≤ 64
-few list r n verdict done = (accepted-list list n (sym verdict ∙ done)).allowed
 
 pub overflow_mul-count : goal.overflow_mul-count
-overflow_mul-count c = omega (arith, few _ _ _ c.check_list-listed.ensures c.in-Done.is)
+overflow_mul-count c = omega (arith, (accepted-list _ _ (sym c.check_list-listed.ensures ∙ c.in-Done.is)).allowed)
 
 pub loop-k-init : goal.loop-k-init
 unfolding tabulate join

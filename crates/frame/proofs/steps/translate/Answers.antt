@@ -4,11 +4,11 @@ use Rattle.verdict.specs.Output.{written, tabulate, join}
 use Rattle.verdict.proofs.Outputs.{pieced-all, succeeds, pieced, piece-next}
 use Rattle.frame.specs.declared.list.Transaction.{Transaction}
 use Rattle.frame.specs.Steps.{step_at, steps_of}
-use mathlib.Core.List.{map, List}
+use mathlib.Core.List.{map}
 use lib.ListN.{take, drop, length}
 use Rattle.verdict.specs.declared.Verdict.TheVariants.{Done}
 use Rattle.verdict.proofs.Lists.{map-tabulate}
-use Prim.Native.Nat.{ℕ, ◌+◌, ◌*◌, ◌-◌, ◌≤◌}
+use Prim.Native.Nat.{ℕ, ◌+◌, ◌*◌, ◌-◌}
 use native.Mathlib.Omega.{arith}
 use borrow.Author.Tests.{le-ltb}
 use Rattle.frame.specs.List.{transaction_at, list_verdict}
@@ -16,14 +16,9 @@ use Rattle.frame.proofs.Lists.{good-is-own, accepted-list, accepted-not-bad}
 use Rattle.frame.proofs.Positions.{length-steps, steps-by-position}
 use Rattle.frame.proofs.steps.translate.Invariants.{piece}
 use Rattle.frame.proofs.steps.translate.Goals as goal
-use Rattle.verdict.specs.declared.Verdict.{Verdict}
-
--- an accepted list has few transactions
-few : (list : List ℕ) (r : Verdict) (n : ℕ) → r ≡ list_verdict list → r ≡ Done n → n ≤ 64
-few list r n verdict done = (accepted-list list n (sym verdict ∙ done)).allowed
 
 pub overflow_mul-count : goal.overflow_mul-count
-overflow_mul-count c = omega (arith, few _ _ _ c.check_list-listed.ensures c.in-Done.is)
+overflow_mul-count c = omega (arith, (accepted-list _ _ (sym c.check_list-listed.ensures ∙ c.in-Done.is)).allowed)
 
 pub loop-k-init : goal.loop-k-init
 unfolding tabulate join
