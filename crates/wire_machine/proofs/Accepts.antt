@@ -51,3 +51,7 @@ goes board steps events log m long e =
       named = λ k h. accepted-place board sound full events on-steps.count on-events.count on-events.passes k (omega (arith, all.count));
       room = omega (arith, pass.count, room_fits log (on-steps.count * 5) m on-events.rest);
     }
+
+-- where a run is not refused its board uses 32 places at most
+pub few_places : (board : Board) (steps events log : List ℕ) (m : ℕ) → length board.phys ≡ 32 → running board steps events log ≡ Done m → board.count ≤ 32
+few_places board steps events log m long e = (goes board steps events log m long e).sound.at_most

@@ -25,6 +25,7 @@ fn check_steps(steps: &[u8]) -> Verdict
 // touched only where it may act or has an event, and an event leaves its line. All loops stay in one function: a board that
 // goes into and out of a call at every clock would take five times as long, and one that goes into a call for its lines would
 // be held once more.
+#[tactic(auto, using(crate::proofs::Accepts::few_places))]
 fn clock_by_clock(mut board: Board, steps: &[u8], events: &[u8], log: &mut [u8]) -> Board
     requires { running board steps.now events.now log.old ≡ Done (length steps.now * log_record) }
     ensures { Clocked board steps.now events.now log.old result log.new }

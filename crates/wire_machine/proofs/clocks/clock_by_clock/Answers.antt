@@ -3,11 +3,9 @@ use Rattle.std.proofs.Common.{ℕ, ◌+◌, ◌*◌, ◌-◌, ◌≤◌, ◌<◌
 use native.Mathlib.Numerals.{add-one}
 use borrow.Rule.Slice.PartMut.{put_mid}
 use lib.ListN.{replicate}
-use Rattle.verdict.specs.declared.Verdict.TheVariants.{Done}
 use Rattle.verdict.specs.File.{byte_at}
 use Rattle.verdict.specs.Output.{tabulate}
 use Rattle.verdict.proofs.Outputs.{filled, fill}
-use Rattle.frame.specs.Frame.{log_record}
 use Rattle.wire.specs.declared.Drive.{Drive}
 use Rattle.wire.specs.Wire.{station_drive}
 use Rattle.phy.specs.Sound.{nowhere}
@@ -24,18 +22,13 @@ use Rattle.wire_machine.specs.declared.hear.Heard.{Heard}
 use Rattle.wire_machine.specs.declared.common.Common.{Common}
 use Rattle.wire_machine.specs.Lines.{line_of, place_in, no_line, onto, line_acts, line_follows, heard_station, heard_from, record_of}
 use Rattle.wire_machine.specs.Common.{stands, standing}
-use Rattle.wire_machine.specs.Run.{running}
 use Rattle.wire_machine.proofs.Turns.{replaced-all}
 use Rattle.wire_machine.proofs.Accepts.{Goes, goes}
 use Rattle.wire_machine.proofs.Stands.{Shows, turn-acts, turn-follows, phys, Stands, begins, shown, length-is, event-next, clock-next}
 use Rattle.wire_machine.proofs.Begins.{lines-filled, lines-small, level-is, put_is, ends}
 use Rattle.wire_machine.proofs.Alike.{event-place, standing_apart, hears-silent, all-follow, mixed, mixed-at, mixed-set, gathered_next, gathered-all, lines-reach}
 use Rattle.wire_machine.proofs.clocks.clock_by_clock.Goals as goal
-use Rattle.wire_machine.proofs.clocks.clock_by_clock.Goals.{then-is_silent, else-is_silent, then-acts, else-acts}
-
--- where a run is not refused its board uses 32 places at most
-few-places : (board : Board) (steps events log : List ℕ) → length board.phys ≡ 32 → running board steps events log ≡ Done (length steps * log_record) → board.count ≤ 32
-few-places board steps events log long e = (goes board steps events log _ long e).sound.at_most
+use Rattle.wire_machine.proofs.clocks.clock_by_clock.Goals.{At-loop-place, After-place_in-i, Joined-is_silent, then-is_silent, else-is_silent, then-acts, else-acts}
 
 -- A run that is not refused, after some clocks and events
 module _ {board : Board} {steps events log₀ : List ℕ} (run : Goes board steps events log₀) {log : List ℕ} {now : Board} {next c : ℕ} (common : Common) (lines : List Line) (stands-so : Stands events steps log₀ board log now next (standing common lines) c) where
@@ -69,30 +62,38 @@ module _ {board : Board} {steps events log₀ : List ℕ} (run : Goes board step
         rw add-one
         (clock-next events steps log₀ board run.full run.rising stands-so none more _ heard.level (put_is run stands-so none drive heard step all part put) (level-is run stands-so none drive heard step all) now' lines' sampled)
 
+-- the run is not refused, so it goes on
+going : (c : At-loop-place) → Goes c.args.board c.args.steps.now c.args.events.now c.args.log.now
+going c = goes _ _ _ _ _ (search rules) c.requires
+
+-- a due event's place is one of the 32
+placed : (c : After-place_in-i) → c.place_in-i.result < 32
+placed c =
+    let run = going (goal.at.After-place_in-i c).At-loop-place in
+    let loop = c.loop-lines in
+    let found : c.place_in-i.result ≡ place_in (take c.args.board.count loop.lines) (event_address c.args.events.now loop.next) = c.place_in-i.ensures ∙ ap (place_in (take c.args.board.count loop.lines)) c.address_of.ensures in
+    small-place run loop.common loop.lines loop.invariant (sym c.if-is_due.ensures) _ found
+
+-- what is heard in a clock is the station and every line, silent or not
+all-heard : (c : Joined-is_silent) → c.if-is_silent.heard ≡ heard_from (heard_station c.station_drive-drive.result) (take c.args.board.count (standing c.loop-lines.common c.loop-lines.lines))
+all-heard c =
+    elim c.if-is_silent.branch [
+      | then-is_silent w ↦ w.heard-is ∙ w.station-heard.ensures ∙ sym (hears-silent c.loop-lines.common (sym w.if-is_silent.ensures) _ c.args.board.count c.loop-lines.lines)
+      | else-is_silent w ↦ w.heard-is ∙ w.hear-heard.ensures
+    ]
+
 pub loop-place-init : goal.loop-place-init
 unfolding tabulate
 loop-place-init c = (omega arith, refl)
 
-pub offset_bounds-board-place : goal.offset_bounds-board-place
-offset_bounds-board-place c = omega (arith, few-places c.args.board c.args.steps.now c.args.events.now c.args.log.now (search rules) c.requires)
-
-pub bounds-board-place : goal.bounds-board-place
-bounds-board-place c = omega (arith, few-places c.args.board c.args.steps.now c.args.events.now c.args.log.now (search rules) c.requires)
-
-pub offset_bounds-lines-place : goal.offset_bounds-lines-place
-offset_bounds-lines-place c = omega (arith, few-places c.args.board c.args.steps.now c.args.events.now c.args.log.now (search rules) c.requires)
-
-pub bounds-lines-place : goal.bounds-lines-place
-bounds-lines-place c = omega (arith, few-places c.args.board c.args.steps.now c.args.events.now c.args.log.now (search rules) c.requires)
-
 pub loop-place-preserved : goal.loop-place-preserved
 loop-place-preserved c =
-    let run : Goes c.args.board c.args.steps.now c.args.events.now c.args.log.now = goes _ _ _ _ _ (search rules) c.requires in
+    let run = going (goal.at.loop-place-preserved c).At-loop-place in
     (omega arith, fill _ _ c.loop-place.lines c.loop-place.place c.of.result (omega (arith, run.sound.at_most)) c.loop-place.invariant.1 c.of.ensures)
 
 pub loop-lines-init : goal.loop-lines-init
 loop-lines-init c =
-    let run : Goes c.args.board c.args.steps.now c.args.events.now c.args.log.now = goes _ _ _ _ _ (search rules) c.requires in
+    let run = going (goal.at.loop-lines-init c).At-loop-place in
     let board = c.args.board in
     let loop = c.loop-place in
     let same = ap (λ (common : Common). standing common loop.lines) c.apart-common.ensures ∙ standing_apart loop.lines in
@@ -103,40 +104,24 @@ loop-lines-init c =
 
 pub place_in-i-requires : goal.place_in-i-requires
 place_in-i-requires c =
-    let run : Goes c.args.board c.args.steps.now c.args.events.now c.args.log.now = goes _ _ _ _ _ (search rules) c.requires in
+    let run = going (goal.at.place_in-i-requires c).At-loop-place in
     run.sound.at_most
 
 pub offset_bounds-board-i : goal.offset_bounds-board-i
-offset_bounds-board-i c =
-    let run : Goes c.args.board c.args.steps.now c.args.events.now c.args.log.now = goes _ _ _ _ _ (search rules) c.requires in
-    let loop = c.loop-lines in
-    let found : c.place_in-i.result ≡ place_in (take c.args.board.count loop.lines) (event_address c.args.events.now loop.next) = c.place_in-i.ensures ∙ ap (place_in (take c.args.board.count loop.lines)) c.address_of.ensures in
-    omega (arith, small-place run loop.common loop.lines loop.invariant (sym c.if-is_due.ensures) _ found)
+offset_bounds-board-i c = omega (arith, placed (goal.at.offset_bounds-board-i c).After-place_in-i)
 
 pub bounds-board-i : goal.bounds-board-i
-bounds-board-i c =
-    let run : Goes c.args.board c.args.steps.now c.args.events.now c.args.log.now = goes _ _ _ _ _ (search rules) c.requires in
-    let loop = c.loop-lines in
-    let found : c.place_in-i.result ≡ place_in (take c.args.board.count loop.lines) (event_address c.args.events.now loop.next) = c.place_in-i.ensures ∙ ap (place_in (take c.args.board.count loop.lines)) c.address_of.ensures in
-    omega (arith, small-place run loop.common loop.lines loop.invariant (sym c.if-is_due.ensures) _ found)
+bounds-board-i c = omega (arith, placed (goal.at.bounds-board-i c).After-place_in-i)
 
 pub offset_bounds-board-i-then-is_due : goal.offset_bounds-board-i-then-is_due
-offset_bounds-board-i-then-is_due c =
-    let run : Goes c.args.board c.args.steps.now c.args.events.now c.args.log.now = goes _ _ _ _ _ (search rules) c.requires in
-    let loop = c.loop-lines in
-    let found : c.place_in-i.result ≡ place_in (take c.args.board.count loop.lines) (event_address c.args.events.now loop.next) = c.place_in-i.ensures ∙ ap (place_in (take c.args.board.count loop.lines)) c.address_of.ensures in
-    omega (arith, small-place run loop.common loop.lines loop.invariant (sym c.if-is_due.ensures) _ found)
+offset_bounds-board-i-then-is_due c = omega (arith, placed (goal.at.offset_bounds-board-i-then-is_due c).After-place_in-i)
 
 pub bounds-board-i-then-is_due : goal.bounds-board-i-then-is_due
-bounds-board-i-then-is_due c =
-    let run : Goes c.args.board c.args.steps.now c.args.events.now c.args.log.now = goes _ _ _ _ _ (search rules) c.requires in
-    let loop = c.loop-lines in
-    let found : c.place_in-i.result ≡ place_in (take c.args.board.count loop.lines) (event_address c.args.events.now loop.next) = c.place_in-i.ensures ∙ ap (place_in (take c.args.board.count loop.lines)) c.address_of.ensures in
-    omega (arith, small-place run loop.common loop.lines loop.invariant (sym c.if-is_due.ensures) _ found)
+bounds-board-i-then-is_due c = omega (arith, placed (goal.at.bounds-board-i-then-is_due c).After-place_in-i)
 
 pub loop-lines-preserved-then-is_due : goal.loop-lines-preserved-then-is_due
 loop-lines-preserved-then-is_due c =
-    let run : Goes c.args.board c.args.steps.now c.args.events.now c.args.log.now = goes _ _ _ _ _ (search rules) c.requires in
+    let run = going (goal.at.loop-lines-preserved-then-is_due c).At-loop-place in
     let loop = c.loop-lines in
     let found : c.place_in-i.result ≡ place_in (take c.args.board.count loop.lines) (event_address c.args.events.now loop.next) = c.place_in-i.ensures ∙ ap (place_in (take c.args.board.count loop.lines)) c.address_of.ensures in
     let due = sym c.if-is_due.ensures in
@@ -145,73 +130,36 @@ loop-lines-preserved-then-is_due c =
 
 pub join_all-requires : goal.join_all-requires
 join_all-requires c =
-    let run : Goes c.args.board c.args.steps.now c.args.events.now c.args.log.now = goes _ _ _ _ _ (search rules) c.requires in
+    let run = going (goal.at.join_all-requires c).At-loop-place in
     omega (arith, c.loop-lines.invariant.shows.counted, run.sound.at_most)
 
 pub returns-then-steps-c : goal.returns-then-steps-c
 returns-then-steps-c c =
-    let run : Goes c.args.board c.args.steps.now c.args.events.now c.args.log.now = goes _ _ _ _ _ (search rules) c.requires in
+    let run = going (goal.at.returns-then-steps-c c).At-loop-place in
     let all : c.loop-lines.c ≡ length c.args.steps.now = omega (arith, c.loop-lines.invariant.gone) in
     ends run c.loop-lines.invariant (sym c.if-is_due.ensures) c.join_all.result all c.join_all.ensures
 
 pub hear-heard-requires : goal.hear-heard-requires
 hear-heard-requires c =
-    let run : Goes c.args.board c.args.steps.now c.args.events.now c.args.log.now = goes _ _ _ _ _ (search rules) c.requires in
+    let run = going (goal.at.hear-heard-requires c).At-loop-place in
     (run.sound.at_most, lines-small run c.loop-lines.invariant (sym c.if-is_due.ensures))
 
 pub loop-lines-preserved-then-moves_alike : goal.loop-lines-preserved-then-moves_alike
 loop-lines-preserved-then-moves_alike c =
-    let run : Goes c.args.board c.args.steps.now c.args.events.now c.args.log.now = goes _ _ _ _ _ (search rules) c.requires in
+    let run = going (goal.at.loop-lines-preserved-then-moves_alike c).At-loop-place in
     let loop = c.loop-lines in
-    let all : c.if-is_silent.heard ≡ heard_from (heard_station c.station_drive-drive.result) (take c.args.board.count (standing loop.common loop.lines)) =
-    elim c.if-is_silent.branch [
-      | then-is_silent w ↦ w.heard-is ∙ w.station-heard.ensures ∙ sym (hears-silent loop.common (sym w.if-is_silent.ensures) _ c.args.board.count loop.lines)
-      | else-is_silent w ↦ w.heard-is ∙ w.hear-heard.ensures
-    ] in
+    let all = all-heard (goal.at.loop-lines-preserved-then-moves_alike c).Joined-is_silent in
     let none = sym c.if-is_due.ensures in
     let level = c.if-is_silent.heard.level in
     let moved = all-follow level loop.common (sym c.if-moves_alike.ensures) loop.lines (shows run loop.common loop.lines loop.invariant none) in
     rw c.follows-common.ensures (clocked run loop.common loop.lines loop.invariant none c.if-steps-c.false c.if-is_silent.heard _ c.station_drive-drive.ensures all _ c.put.ensures _ _ moved)
 
-pub offset_bounds-lines-i : goal.offset_bounds-lines-i
-offset_bounds-lines-i c = omega (arith, few-places c.args.board c.args.steps.now c.args.events.now c.args.log.now (search rules) c.requires)
-
-pub bounds-lines-i : goal.bounds-lines-i
-bounds-lines-i c = omega (arith, few-places c.args.board c.args.steps.now c.args.events.now c.args.log.now (search rules) c.requires)
-
-pub offset_bounds-board-i-then-acts : goal.offset_bounds-board-i-then-acts
-offset_bounds-board-i-then-acts c = omega (arith, few-places c.args.board c.args.steps.now c.args.events.now c.args.log.now (search rules) c.requires)
-
-pub bounds-board-i-then-acts : goal.bounds-board-i-then-acts
-bounds-board-i-then-acts c = omega (arith, few-places c.args.board c.args.steps.now c.args.events.now c.args.log.now (search rules) c.requires)
-
-pub offset_bounds-board-i-then-acts-2 : goal.offset_bounds-board-i-then-acts-2
-offset_bounds-board-i-then-acts-2 c = omega (arith, few-places c.args.board c.args.steps.now c.args.events.now c.args.log.now (search rules) c.requires)
-
-pub bounds-board-i-then-acts-2 : goal.bounds-board-i-then-acts-2
-bounds-board-i-then-acts-2 c = omega (arith, few-places c.args.board c.args.steps.now c.args.events.now c.args.log.now (search rules) c.requires)
-
-pub offset_bounds-lines-i-then-acts : goal.offset_bounds-lines-i-then-acts
-offset_bounds-lines-i-then-acts c = omega (arith, few-places c.args.board c.args.steps.now c.args.events.now c.args.log.now (search rules) c.requires)
-
-pub bounds-lines-i-then-acts : goal.bounds-lines-i-then-acts
-bounds-lines-i-then-acts c = omega (arith, few-places c.args.board c.args.steps.now c.args.events.now c.args.log.now (search rules) c.requires)
-
-pub offset_bounds-lines-i-else-acts : goal.offset_bounds-lines-i-else-acts
-offset_bounds-lines-i-else-acts c = omega (arith, few-places c.args.board c.args.steps.now c.args.events.now c.args.log.now (search rules) c.requires)
-
-pub bounds-lines-i-else-acts : goal.bounds-lines-i-else-acts
-bounds-lines-i-else-acts c = omega (arith, few-places c.args.board c.args.steps.now c.args.events.now c.args.log.now (search rules) c.requires)
-
-pub offset_bounds-lines-i-in-loop-i : goal.offset_bounds-lines-i-in-loop-i
-offset_bounds-lines-i-in-loop-i c = omega (arith, few-places c.args.board c.args.steps.now c.args.events.now c.args.log.now (search rules) c.requires)
-
 pub bounds-lines-i-in-loop-i : goal.bounds-lines-i-in-loop-i
-bounds-lines-i-in-loop-i c = omega (arith, few-places c.args.board c.args.steps.now c.args.events.now c.args.log.now (search rules) c.requires)
+bounds-lines-i-in-loop-i c = omega (arith, (going (goal.at.bounds-lines-i-in-loop-i c).At-loop-place).sound.at_most)
 
 pub loop-i-preserved : goal.loop-i-preserved
 loop-i-preserved c =
-    let run : Goes c.args.board c.args.steps.now c.args.events.now c.args.log.now = goes _ _ _ _ _ (search rules) c.requires in
+    let run = going (goal.at.loop-i-preserved c).At-loop-place in
     let at = c.loop-lines in
     let loop = c.loop-i in
     let i = loop.i in
@@ -236,13 +184,9 @@ loop-i-preserved c =
 
 pub loop-lines-preserved : goal.loop-lines-preserved
 loop-lines-preserved c =
-    let run : Goes c.args.board c.args.steps.now c.args.events.now c.args.log.now = goes _ _ _ _ _ (search rules) c.requires in
+    let run = going (goal.at.loop-lines-preserved c).At-loop-place in
     let loop = c.loop-lines in
-    let all : c.if-is_silent.heard ≡ heard_from (heard_station c.station_drive-drive.result) (take c.args.board.count (standing loop.common loop.lines)) =
-    elim c.if-is_silent.branch [
-      | then-is_silent w ↦ w.heard-is ∙ w.station-heard.ensures ∙ sym (hears-silent loop.common (sym w.if-is_silent.ensures) _ c.args.board.count loop.lines)
-      | else-is_silent w ↦ w.heard-is ∙ w.hear-heard.ensures
-    ] in
+    let all = all-heard (goal.at.loop-lines-preserved c).Joined-is_silent in
     let none = sym c.if-is_due.ensures in
     let turn = c.loop-i in
     let b = c.args.board in
