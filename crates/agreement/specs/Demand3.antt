@@ -1,6 +1,6 @@
 -- Demand 3: "Running the translated clock steps on the wire gives the same answers, registers and links as the plain machine (..); never two drivers; every PHY ends hunting." Over the very definitions that the promises of `translate`, `run`, `decode` and `plain` cite.
 use Rattle.std.specs.Prelude.{ℕ, ◌≤◌, ◌<◌, ◌*◌, ◌≡◌, Bool, List, [], ◌∷◌, map}
-use Rattle.verdict.specs.declared.Verdict.TheVariants.{Done}
+use Rattle.verdict.specs.Refusal.{Done}
 use Rattle.verdict.specs.File.{byte_at}
 use Rattle.verdict.specs.Lists.{All}
 use Rattle.frame.specs.declared.list.Transaction.{Transaction}

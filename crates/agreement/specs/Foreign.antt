@@ -1,6 +1,6 @@
 -- Document 02, E2, of the run that the promise of `run` cites: "after a start of 00 the follower passes over the other 30 bits, driving and storing nothing, and only then hunts, with 0 ones".
 use Rattle.std.specs.Prelude.{ℕ, ◌+◌, ◌-◌, ◌≡◌, Bool, List, [], ◌∷◌, ◌++◌, map, length, replicate}
-use Rattle.verdict.specs.declared.Verdict.TheVariants.{Done}
+use Rattle.verdict.specs.Refusal.{Done}
 use Rattle.verdict.specs.Lists.{All}
 use Rattle.frame.specs.Frame.{preamble, frame_bits}
 use Rattle.frame.specs.Steps.{drive_zero, drive_one}

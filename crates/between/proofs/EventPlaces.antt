@@ -9,7 +9,7 @@ use lib.Dec.{eqb, leb}
 use lib.ListN.{length, get_or, set, length-map, get_or-map}
 use lib.Seq.{get_or-take}
 use borrow.Author.Tests.{leb-true, leb-false, eqb-true, eq-eqb}
-use Rattle.verdict.specs.declared.Verdict.TheVariants.{Done}
+use Rattle.verdict.specs.Refusal.{Done}
 use Rattle.verdict.proofs.Checks.{accepted}
 use Rattle.verdict.proofs.Elements.{map-then}
 use Rattle.phy.specs.declared.own.Own.{Own}

@@ -2,7 +2,7 @@
 use Prim.Native.Nat.{ℕ}
 use mathlib.Core.List.{List}
 use mathlib.Core.Path.{◌≡◌, sym, ◌∙◌}
-use Rattle.verdict.specs.declared.Verdict.{Verdict}
+use Rattle.verdict.specs.Refusal.{Verdict}
 use Rattle.board.specs.declared.Board.{Board}
 use Rattle.board.specs.declared.Loaded.{Loaded}
 use Rattle.board.specs.Check.{checked}

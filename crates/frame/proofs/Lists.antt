@@ -5,7 +5,7 @@ use mathlib.Core.List.{List, []}
 use native.Mathlib.Omega.{arith}
 use lib.ListN.{length, drop, get_or, drop_of_length-le, get_or-eq_default}
 use borrow.Author.Tests.{le-ltb}
-use Rattle.verdict.specs.declared.Verdict.TheVariants.{Done}
+use Rattle.verdict.specs.Refusal.{Done}
 use Rattle.verdict.specs.Refusal.{wrong_op}
 use Rattle.verdict.proofs.Checks.{Accepted, accepted}
 use Rattle.frame.specs.declared.list.Transaction.{Transaction}

@@ -1,12 +1,9 @@
 -- Document 01, "Records": "List, 6 bytes, 0 to 64: op (1 write, 2 read), PHY address, register, a zero byte, data (2 bytes, zero for a read)."
 use Rattle.std.specs.Prelude.{ℕ, zero, suc, ◌+◌, ◌*◌, Bool, not, ◌&&◌, ◌||◌, List, eqb, ltb}
-use Rattle.verdict.specs.declared.Verdict.{Verdict}
-use Rattle.verdict.specs.Refusal.{wrong_field, wrong_op, ◌when◌, ◌else◌}
+use Rattle.verdict.specs.Refusal.{Verdict, Judged, judged_by, wrong_field, wrong_op, ◌when◌, ◌else◌}
 use Rattle.verdict.specs.File.{byte_at, word_at, records, file_verdict}
 use Rattle.verdict.specs.Output.{tabulate}
 use Rattle.frame.specs.declared.list.Transaction.{Transaction}
-use Rattle.frame.specs.declared.list.Parse.{Parse}
-use Rattle.frame.specs.declared.list.Parse.TheVariants.{Good, Bad}
 
 abbrev pub list_record : ℕ
 list_record = 6
@@ -54,16 +51,8 @@ unfoldable pub record_fault : List ℕ → ℕ → ℕ
 record_fault list k = fault_of (transaction_at list k) (zero_byte_at list k)
 
 -- a record is a good transaction, or bad with a refusal's number
-abbrev pub parse_of : ℕ → Transaction → Parse
-parse_of zero t = Good t
-parse_of (suc c) t = Bad (suc c)
-
-unfoldable pub parsed : List ℕ → ℕ → Parse
-parsed list k = parse_of (record_fault list k) (transaction_at list k)
-
-abbrev pub refusal_of : Parse → ℕ
-refusal_of (Good t) = 0
-refusal_of (Bad c) = c
+unfoldable pub parsed : List ℕ → ℕ → Judged Transaction
+parsed list k = judged_by (record_fault list k) (transaction_at list k)
 
 -- the list file's checks: 1, 2, then its records in order by 3 and 7
 abbrev pub list_verdict : List ℕ → Verdict

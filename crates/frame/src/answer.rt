@@ -1,12 +1,13 @@
 // The decoder: what a list's log answers (document 01, "Records").
 ghost use Rattle.std.specs.Prelude.{◌≡◌, ◌≤◌};
+ghost use Rattle.verdict.specs.Refusal.{said};
 ghost use Rattle.frame.specs.Log.{level_at};
 ghost use Rattle.frame.specs.Answers.{word_in, turnaround_in, is_answered, answer_to, read_answer, answer_in, put_in, Decoded};
 
 use crate::Frame;
-use crate::list::{Parse, Transaction, check_list, parsed_at};
+use crate::list::{Transaction, check_list, parsed_at};
 use crate::log::log_part;
-use verdict::{Verdict, byte_at};
+use verdict::{Fault, Refusal, byte_at};
 
 #[derive(Clone, Copy)]
 pub struct Answer {
@@ -78,10 +79,8 @@ fn word_in(part: &[u8]) -> u16
     ensures { result ≡ word_in part.now }
 {
     let mut word: u16 = 0;
-    let mut i = 0;
-    while i < Frame::DATA_BITS {
+    for i in 0..Frame::DATA_BITS {
         word = word * 2 + level(part, Frame::DATA + i) as u16;
-        i += 1;
     }
     word
 }
@@ -122,31 +121,26 @@ impl Transaction {
 }
 
 // Writes the answers that a list's log holds to the start of `answers`. It looks at the log where it lies.
-pub fn decode(list: &[u8], log: &[u8], answers: &mut [u8]) -> Verdict
-    ensures { Decoded list.now log.now answers.old result answers.new }
+pub fn decode(list: &[u8], log: &[u8], answers: &mut [u8]) -> Result<usize, Refusal>
+    ensures { Decoded list.now log.now answers.old (said result) answers.new }
 {
-    let listed = check_list(list);
-    let Verdict::Done(count) = listed else {
-        return listed;
-    };
+    let count = check_list(list)?;
     if log.len() != count * Frame::LOG_PART {
-        return Verdict::Refused(Verdict::WRONG_LOG_LENGTH, 0);
+        return Err(Fault::WrongLogLength.at(0));
     }
     if answers.len() < count * Answer::BYTES {
-        return Verdict::Refused(Verdict::NO_ROOM, 0);
+        return Err(Fault::NoRoom.at(0));
     }
-    let mut k = 0;
-    while k < count {
+    for k in 0..count {
         // The list's check came first, so no record is bad here, and a refusal has written nothing.
         let record = parsed_at(list, k);
-        let Parse::Good(transaction) = record else {
-            return Verdict::Refused(record.refusal(), k);
+        let Ok(transaction) = record else {
+            return Err(record.unwrap_err().at(k));
         };
         let answer = transaction.answer_in(log_part(log, k + 1));
         let at = k * Answer::BYTES;
         let end = at + Answer::BYTES;
         answer.put(&mut answers[at..end]);
-        k += 1;
     }
-    Verdict::Done(count * Answer::BYTES)
+    Ok(count * Answer::BYTES)
 }

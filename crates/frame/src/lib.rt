@@ -8,7 +8,7 @@ mod log;
 mod steps;
 
 pub use answer::{Answer, Turnaround, decode};
-pub use list::{Parse, Transaction, check_list, parsed_at, transaction_at};
+pub use list::{Transaction, check_list, parsed_at, transaction_at};
 pub use log::log_part;
 pub use steps::{Step, Steps, translate};
 

@@ -1,12 +1,13 @@
 // The translator: 65 clock steps for each transaction (document 01, "Clock steps").
 ghost use Rattle.std.specs.Prelude.{◌≡◌, ◌<◌, ◌+◌, length};
 ghost use Rattle.verdict.specs.Bits.{bit};
+ghost use Rattle.verdict.specs.Refusal.{said};
 ghost use Rattle.verdict.specs.Output.{tabulate};
 ghost use Rattle.frame.specs.Steps.{step_at, Translated};
 
 use crate::Frame;
-use crate::list::{Parse, Transaction, check_list, parsed_at};
-use verdict::Verdict;
+use crate::list::{Transaction, check_list, parsed_at};
+use verdict::{Fault, Refusal};
 
 // A clock step is one byte.
 #[derive(Clone, Copy)]
@@ -89,36 +90,29 @@ impl Transaction {
     fn send(self, part: &mut [u8])
         ensures { part.new ≡ tabulate (length part.old) (λ i. step_at self (i + 1)) }
     {
-        let mut i = 0;
-        while i < part.len() {
-            part[i] = self.step(i + 1);
-            i += 1;
+        for (i, step) in part.iter_mut().enumerate() {
+            *step = self.step(i + 1);
         }
     }
 }
 
 // Writes the steps of a list to the start of `steps`.
-pub fn translate(list: &[u8], steps: &mut [u8]) -> Verdict
-    ensures { Translated list.now steps.old result steps.new }
+pub fn translate(list: &[u8], steps: &mut [u8]) -> Result<usize, Refusal>
+    ensures { Translated list.now steps.old (said result) steps.new }
 {
-    let listed = check_list(list);
-    let Verdict::Done(count) = listed else {
-        return listed;
-    };
+    let count = check_list(list)?;
     if steps.len() < count * Frame::CLOCKS {
-        return Verdict::Refused(Verdict::NO_ROOM, 0);
+        return Err(Fault::NoRoom.at(0));
     }
-    let mut k = 0;
-    while k < count {
+    for k in 0..count {
         // The list's check came first, so no record is bad here, and a refusal has written nothing.
         let record = parsed_at(list, k);
-        let Parse::Good(transaction) = record else {
-            return Verdict::Refused(record.refusal(), k);
+        let Ok(transaction) = record else {
+            return Err(record.unwrap_err().at(k));
         };
         let at = k * Frame::CLOCKS;
         let end = at + Frame::CLOCKS;
         transaction.send(&mut steps[at..end]);
-        k += 1;
     }
-    Verdict::Done(count * Frame::CLOCKS)
+    Ok(count * Frame::CLOCKS)
 }

@@ -5,8 +5,8 @@ use mathlib.Core.List.{List}
 use native.Mathlib.Omega.{arith}
 use lib.ListN.{length}
 use borrow.Author.Tests.{le-ltb}
-use Rattle.verdict.specs.declared.Verdict.{Verdict}
-use Rattle.verdict.specs.declared.Verdict.TheVariants.{Done}
+use Rattle.verdict.specs.Refusal.{Verdict}
+use Rattle.verdict.specs.Refusal.{Done}
 use Rattle.verdict.specs.Refusal.{wrong_level}
 use Rattle.verdict.proofs.Checks.{passed-bytes}
 use Rattle.verdict.proofs.Outputs.{writes-unique}

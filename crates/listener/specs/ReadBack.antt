@@ -1,6 +1,6 @@
 -- Document 02, E1: "Levels taken from a run of a translated list from a hunting board must read back as exactly that run's answers."
 use Rattle.std.specs.Prelude.{ℕ, ◌≡◌, List, length}
-use Rattle.verdict.specs.declared.Verdict.TheVariants.{Done}
+use Rattle.verdict.specs.Refusal.{Done}
 use Rattle.verdict.specs.File.{records}
 use Rattle.frame.specs.Frame.{log_record}
 use Rattle.frame.specs.Steps.{translation}

@@ -5,7 +5,7 @@ use mathlib.Core.List.{List, ◌++◌, map}
 use native.Mathlib.Omega.{arith}
 use lib.ListN.{length, take, drop, length-map}
 use lib.Seq.{take_at}
-use Rattle.verdict.specs.declared.Verdict.TheVariants.{Done}
+use Rattle.verdict.specs.Refusal.{Done}
 use Rattle.verdict.specs.Output.{join, output_after}
 use Rattle.verdict.proofs.Elements.{all_of, map_same, map-stays}
 use Rattle.frame.specs.Frame.{log_record}

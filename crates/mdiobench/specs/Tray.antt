@@ -1,6 +1,6 @@
 -- Document 01, "Refusal numbers": "board, then list, then events".
 use Rattle.std.specs.Prelude.{ℕ, ◌≡◌, List}
-use Rattle.verdict.specs.declared.Verdict.TheVariants.{Done}
+use Rattle.verdict.specs.Refusal.{Done}
 use Rattle.frame.specs.List.{list_verdict}
 use Rattle.board.specs.declared.Board.{Board}
 use Rattle.board.specs.Load.{loaded}

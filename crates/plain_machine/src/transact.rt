@@ -1,7 +1,7 @@
 // The transactions of a list one after the other (document 01: "transaction k reads in clock 65(k-1)+46 or stores in
 // 65(k-1)+64"), with the events between them.
 ghost use Rattle.std.specs.Prelude.{◌≡◌, ◌*◌, [], ◌∷◌};
-ghost use Rattle.verdict.specs.declared.Verdict.TheVariants.{Done};
+ghost use Rattle.verdict.specs.Refusal.{Done};
 ghost use Rattle.verdict.specs.File.{records};
 ghost use Rattle.frame.specs.List.{list_record};
 ghost use Rattle.frame.specs.Answers.{answer_record};

@@ -9,9 +9,7 @@ use native.Mathlib.Decide.{ℕ_discrete}
 use lib.ListN.{length}
 use lib.Dec.{eqb, ltb}
 use borrow.Author.Tests.{eqb-true, eqb-false, ltb-true, ltb-false, eq-eqb, le-ltb}
-use Rattle.verdict.specs.declared.Verdict.{Verdict}
-use Rattle.verdict.specs.declared.Verdict.TheVariants.{Done, Refused}
-use Rattle.verdict.specs.Refusal.{wrong_length, too_many, ◌when◌, refuse, and_then}
+use Rattle.verdict.specs.Refusal.{Verdict, Done, Refused, wrong_length, too_many, ◌when◌, refuse, and_then}
 use Rattle.verdict.specs.File.{records, in_order, file_verdict, byte_fault, bytes_verdict}
 
 module _ (fault : ℕ → ℕ) (v : Verdict) where

@@ -11,8 +11,8 @@ use lib.ListN.{length, drop, set, length-append, length-drop}
 use lib.Dec.{ltb}
 use lib.Seq.{drop-cons, set_at, take_at, drop_at, drop-drop}
 use borrow.Author.Tests.{le-ltb, ltb-false}
-use Rattle.verdict.specs.declared.Verdict.{Verdict}
-use Rattle.verdict.specs.declared.Verdict.TheVariants.{Done, Refused}
+use Rattle.verdict.specs.Refusal.{Verdict}
+use Rattle.verdict.specs.Refusal.{Done, Refused}
 use Rattle.verdict.specs.Refusal.{no_room, ◌when◌, refuse}
 use Rattle.verdict.specs.Output.{tabulate, join, written, room_for, Writes}
 use Rattle.verdict.proofs.Lists.{length-tabulate, join-append, length-pieces}

@@ -1,7 +1,7 @@
 -- Document 01, "Refusal numbers": "Nothing is written" and "Success writes the result from the output's start; later bytes stay."
 use Rattle.std.specs.Prelude.{ℕ, zero, suc, ◌≡◌, List, [], ◌∷◌, ◌++◌, length, drop, ltb}
-use Rattle.verdict.specs.declared.Verdict.{Verdict}
-use Rattle.verdict.specs.declared.Verdict.TheVariants.{Done, Refused}
+use Rattle.verdict.specs.Refusal.{Verdict}
+use Rattle.verdict.specs.Refusal.{Done, Refused}
 use Rattle.verdict.specs.Refusal.{no_room, ◌when◌, refuse}
 
 -- the n values f 0, f 1, ..

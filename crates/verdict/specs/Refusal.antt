@@ -1,7 +1,8 @@
 -- Document 01, "Refusal numbers": each number by what it is given for, and how checks are put in order.
-use Rattle.std.specs.Prelude.{ℕ, zero, suc, Bool, true, false}
-use Rattle.verdict.specs.declared.Verdict.{Verdict}
-use Rattle.verdict.specs.declared.Verdict.TheVariants.{Done, Refused}
+use Rattle.std.specs.Prelude.{ℕ, zero, suc, Bool, true, false, Result, Ok, Err}
+use Rattle.verdict.specs.declared.Fault.{Fault}
+use Rattle.verdict.specs.declared.Fault.TheVariants.{WrongLength, TooMany, WrongField, AddressUsed, WrongRegisterSet, WrongDefault, WrongOp, WrongEvent, WrongClock, NoRoom, WrongStep, NotSound, WrongLogLength, WrongLevel, WrongText}
+use Rattle.verdict.specs.declared.Refusal.{Refusal}
 
 infixl 40 ◌when◌
 infixr 35 ◌else◌
@@ -64,6 +65,64 @@ wrong_level = 16
 -- text of a waveform that the writer never writes (document 02, E3)
 abbrev pub wrong_text : ℕ
 wrong_text = 18
+
+-- "The promises use a definition for any answer that is an enum. For each case of the enum, the definition gives this paper's number"
+abbrev pub number_of : Fault → ℕ
+number_of WrongLength = wrong_length
+number_of TooMany = too_many
+number_of WrongField = wrong_field
+number_of AddressUsed = address_used
+number_of WrongRegisterSet = wrong_register_set
+number_of WrongDefault = wrong_default
+number_of WrongOp = wrong_op
+number_of WrongEvent = wrong_event
+number_of WrongClock = wrong_clock
+number_of NoRoom = no_room
+number_of WrongStep = wrong_step
+number_of NotSound = not_sound
+number_of WrongLogLength = wrong_log_length
+number_of WrongLevel = wrong_level
+number_of WrongText = wrong_text
+
+-- the refusal that a fault of the record at an index is
+abbrev pub refusal_at : Fault → ℕ → Refusal
+refusal_at fault index = record { fault = fault; index = index }
+
+-- the answer of every call: done with the bytes or records that there are, or refused with a number at an index
+pub data Verdict : Type 0 where
+  Done : ℕ → Verdict
+  Refused : ℕ → ℕ → Verdict
+
+-- what a call's result says
+abbrev pub said : Result ℕ Refusal → Verdict
+said (Ok n) = Done n
+said (Err r) = Refused (number_of r.fault) r.index
+
+-- what checks find of a record: it is good, and says this, or bad with a refusal's number
+pub data Judged (A : Type 0) : Type 0 where
+  Good : A → Judged A
+  Bad : ℕ → Judged A
+
+module _ {A : Type 0} where
+  -- what a result says of a record
+  abbrev pub judged : Result A Fault → Judged A
+  judged (Ok a) = Good a
+  judged (Err fault) = Bad (number_of fault)
+
+  -- a record by the number that its checks find, 0 where it passes
+  abbrev pub judged_by : ℕ → A → Judged A
+  judged_by zero a = Good a
+  judged_by (suc c) a = Bad (suc c)
+
+  -- that number
+  abbrev pub refusal_of : Judged A → ℕ
+  refusal_of (Good a) = 0
+  refusal_of (Bad c) = c
+
+-- what checks find, where a good record says nothing more: a refusal's number, or 0
+abbrev pub finding : Result (Unit {0}) Fault → ℕ
+finding (Ok done) = 0
+finding (Err fault) = number_of fault
 
 -- "A refusal returns its number and the record's index from 0": of each answer its number, 0 for none, and its index
 abbrev pub number : Verdict → ℕ

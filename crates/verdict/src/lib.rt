@@ -3,47 +3,58 @@
 
 ghost use Rattle.std.specs.Prelude.{◌≡◌};
 ghost use Rattle.verdict.specs.File.{byte_at, word_at, bytes_verdict};
+ghost use Rattle.verdict.specs.Refusal.{said, number_of, refusal_at};
 
-// The answer of every call.
-#[derive(Clone, Copy)]
-pub enum Verdict {
-    // The bytes written where a call writes, else the number of records or PHYs.
-    Done(usize),
-    // The refusal's number, and the record's index from 0.
-    Refused(u8, usize),
+use std::fmt;
+
+// What a refusal is given for. As a number each is the one of document 01.
+#[derive(Clone, Copy, Debug, PartialEq, Eq)]
+pub enum Fault {
+    WrongLength = 1,
+    TooMany = 2,
+    WrongField = 3,
+    AddressUsed = 4,
+    WrongRegisterSet = 5,
+    WrongDefault = 6,
+    WrongOp = 7,
+    WrongEvent = 8,
+    WrongClock = 9,
+    NoRoom = 10,
+    WrongStep = 11,
+    NotSound = 12,
+    WrongLogLength = 13,
+    WrongLevel = 16,
+    WrongText = 18,
 }
 
-// The refusal numbers, each by what it is given for.
-impl Verdict {
-    pub const WRONG_LENGTH: u8 = 1;
+// Why a call did nothing: the fault, and the record's index from 0.
+#[derive(Clone, Copy, Debug, PartialEq, Eq)]
+pub struct Refusal {
+    pub fault: Fault,
+    pub index: usize,
+}
 
-    pub const TOO_MANY: u8 = 2;
+impl Fault {
+    // The refusal that this fault of the record at an index is.
+    pub fn at(self, index: usize) -> Refusal
+        ensures { result ≡ refusal_at self index }
+    {
+        Refusal { fault: self, index }
+    }
+}
 
-    pub const WRONG_FIELD: u8 = 3;
+impl From<Fault> for u8 {
+    ghost from_gives = { λ fault number. number ≡ number_of fault };
 
-    pub const ADDRESS_USED: u8 = 4;
+    fn from(fault: Fault) -> u8 {
+        fault as u8
+    }
+}
 
-    pub const WRONG_REGISTER_SET: u8 = 5;
-
-    pub const WRONG_DEFAULT: u8 = 6;
-
-    pub const WRONG_OP: u8 = 7;
-
-    pub const WRONG_EVENT: u8 = 8;
-
-    pub const WRONG_CLOCK: u8 = 9;
-
-    pub const NO_ROOM: u8 = 10;
-
-    pub const WRONG_STEP: u8 = 11;
-
-    pub const NOT_SOUND: u8 = 12;
-
-    pub const WRONG_LOG_LENGTH: u8 = 13;
-
-    pub const WRONG_LEVEL: u8 = 16;
-
-    pub const WRONG_TEXT: u8 = 18;
+impl fmt::Display for Refusal {
+    fn fmt<W: fmt::Write>(&self, f: &mut fmt::Formatter<W>) -> fmt::Result {
+        write!(f, "refused {} at {}", u8::from(self.fault), self.index)
+    }
 }
 
 // A file's byte; past the end it reads 0.
@@ -66,21 +77,18 @@ pub fn word_at(file: &[u8], i: usize) -> u16
     }
 }
 
-// The checks of a file of single bytes: not over `most` of them, and none over `largest`, which `number` refuses.
-pub fn check_bytes(file: &[u8], most: usize, largest: u8, number: u8) -> Verdict
-    ensures { result ≡ bytes_verdict most largest number file.now }
+// The checks of a file of single bytes: not over `most` of them, and none over `largest`, which is this fault.
+pub fn check_bytes(file: &[u8], most: usize, largest: u8, fault: Fault) -> Result<usize, Refusal>
+    ensures { said result ≡ bytes_verdict most largest (number_of fault) file.now }
 {
     let count = file.len();
     if most < count {
-        return Verdict::Refused(Verdict::TOO_MANY, 0);
+        return Err(Fault::TooMany.at(0));
     }
-    let mut k: usize = 0;
-    while k < count {
-        let fault = if largest < file[k] { number } else { 0 };
-        if fault != 0 {
-            return Verdict::Refused(fault, k);
+    for (k, byte) in file.iter().enumerate() {
+        if largest < *byte {
+            return Err(fault.at(k));
         }
-        k += 1;
     }
-    Verdict::Done(count)
+    Ok(count)
 }

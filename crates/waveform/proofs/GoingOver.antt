@@ -9,7 +9,7 @@ use native.Mathlib.Numerals.{add-one}
 use lib.ListN.{length, drop, set, length-append, length-drop, length-map}
 use lib.Dec.{eqb, ltb, leb}
 use borrow.Author.Tests.{le-leb, lt-leb}
-use Rattle.verdict.specs.declared.Verdict.TheVariants.{Done, Refused}
+use Rattle.verdict.specs.Refusal.{Done, Refused}
 use Rattle.verdict.specs.Refusal.{wrong_text}
 use Rattle.verdict.specs.Output.{written}
 use Rattle.verdict.proofs.Outputs.{set_next}

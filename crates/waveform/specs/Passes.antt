@@ -1,8 +1,8 @@
 -- What the parts of `write_vcd` and `read_vcd` promise each other.
 use Rattle.std.specs.Prelude.{ℕ, zero, suc, ◌+◌, ◌≤◌, ◌≡◌, Bool, true, not, ◌&&◌, cond, List, [], ◌∷◌, ◌++◌, map, length, take, drop, eqb, ltb}
 use Rattle.std.proofs.Math.Option.{Option, none, some}
-use Rattle.verdict.specs.declared.Verdict.{Verdict}
-use Rattle.verdict.specs.declared.Verdict.TheVariants.{Done, Refused}
+use Rattle.verdict.specs.Refusal.{Verdict}
+use Rattle.verdict.specs.Refusal.{Done, Refused}
 use Rattle.verdict.specs.Refusal.{wrong_text}
 use Rattle.verdict.specs.File.{records}
 use Rattle.verdict.specs.Output.{written}

@@ -1,6 +1,6 @@
 // The wire machine: every clock, all parties drive, then all sample the level (document 01, "Clock steps").
 ghost use Rattle.std.specs.Prelude.{◌≡◌, ◌*◌, length};
-ghost use Rattle.verdict.specs.declared.Verdict.TheVariants.{Done};
+ghost use Rattle.verdict.specs.Refusal.{Done};
 ghost use Rattle.frame.specs.Frame.{log_record};
 ghost use Rattle.wire_machine.specs.Run.{steps_verdict, running, Ran};
 ghost use Rattle.wire_machine.specs.Clocks.{Clocked};

@@ -1,6 +1,6 @@
 -- 12 and the list's refusals come first; what passes is translated whole, since there is room for the longest list, and its run is what is sent.
 use mathlib.Core.Path.{◌≡◌, sym, ◌∙◌}
-use Rattle.verdict.specs.declared.Verdict.TheVariants.{Done}
+use Rattle.verdict.specs.Refusal.{Done}
 use Rattle.board.specs.Check.{checked}
 use Rattle.between.proofs.Laws.{refuses-back}
 use Rattle.agreement.proofs.ExchangeCalls.{stepped, not-stepped, sent-by-run}

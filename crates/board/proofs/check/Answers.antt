@@ -7,7 +7,7 @@ use native.Mathlib.Omega.{arith}
 use lib.ListN.{get_or, set}
 use borrow.Author.Tests.{lt-ltb, le-ltb, lt-leb, le-leb}
 use borrow.Author.Rules.{rules}
-use Rattle.verdict.specs.declared.Verdict.TheVariants.{Refused}
+use Rattle.verdict.specs.Refusal.{Refused}
 use Rattle.verdict.proofs.Checks.{next, stop, finish}
 use Rattle.phy.specs.Sound.{phy_sound, is_blank}
 use Rattle.board.specs.declared.Board.{Board}

@@ -1,7 +1,7 @@
 -- The places are asked in order, those with a PHY and then the blank ones, and the first at fault refuses.
 use Prim.Native.Nat.{◌≤◌, ◌-◌}
 use mathlib.Core.Path.{◌≡◌}
-use Rattle.verdict.specs.declared.Verdict.TheVariants.{Done}
+use Rattle.verdict.specs.Refusal.{Done}
 use Rattle.verdict.specs.File.{in_order}
 use Rattle.board.specs.Record.{taken_by}
 use Rattle.board.specs.Check.{place_at, place_fault, checked}

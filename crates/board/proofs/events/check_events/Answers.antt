@@ -10,7 +10,7 @@ use lib.Dec.{eqb}
 use lib.ListN.{get_or}
 use borrow.Author.Tests.{eq-eqb, ne_eqb, lt-ltb, le-ltb}
 use borrow.Author.Rules.{rules}
-use Rattle.verdict.specs.declared.Verdict.TheVariants.{Refused}
+use Rattle.verdict.specs.Refusal.{Refused}
 use Rattle.verdict.specs.File.{file_verdict}
 use Rattle.verdict.proofs.Checks.{next, stop, finish}
 use Rattle.phy.specs.Record.{any}

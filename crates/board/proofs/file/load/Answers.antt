@@ -7,8 +7,8 @@ use native.Mathlib.Omega.{arith}
 use native.Mathlib.Nat.{sub-zero}
 use lib.ListN.{length, get_or, set, replicate}
 use borrow.Author.Tests.{eq-eqb, ne_eqb, lt-ltb, le-ltb}
-use Rattle.verdict.specs.declared.Verdict.{Verdict}
-use Rattle.verdict.specs.declared.Verdict.TheVariants.{Done, Refused}
+use Rattle.verdict.specs.Refusal.{Verdict}
+use Rattle.verdict.specs.Refusal.{Done, Refused}
 use Rattle.verdict.specs.File.{file_verdict}
 use Rattle.verdict.specs.Output.{tabulate}
 use Rattle.verdict.proofs.Checks.{next, stop, finish}

@@ -4,7 +4,7 @@ use mathlib.Core.Path.{◌≡◌, refl, ap, ap₂, sym, ◌∙◌}
 use mathlib.Core.List.{map}
 use native.Mathlib.Omega.{arith}
 use borrow.Author.Tests.{le-ltb, eq-eqb}
-use Rattle.verdict.specs.declared.Verdict.TheVariants.{Done}
+use Rattle.verdict.specs.Refusal.{Done}
 use Rattle.verdict.specs.Output.{tabulate, join, written}
 use Rattle.verdict.proofs.Lists.{map-tabulate}
 use Rattle.verdict.proofs.Outputs.{succeeds, pieced, piece-next, pieced-all}

@@ -6,7 +6,7 @@ use Rattle.frame.proofs.Lists.{refusal-parsed, bad-at-fault}
 use mathlib.Core.Path.{◌≡◌, ap, sym, ◌∙◌}
 use native.Mathlib.Omega.{arith}
 use borrow.Author.Tests.{ne_eqb, lt-ltb, le-ltb}
-use Rattle.verdict.specs.declared.Verdict.TheVariants.{Done, Refused}
+use Rattle.verdict.specs.Refusal.{Done, Refused}
 use Rattle.verdict.specs.File.{in_order, file_verdict}
 use Rattle.verdict.proofs.Checks.{next, stop, finish}
 use Rattle.frame.proofs.list.check_list.Goals as goal

@@ -2,7 +2,7 @@
 use Prim.Native.Nat.{◌-◌, ◌≤◌}
 use Rattle.frame.specs.List.{record_fault, list_verdict}
 use mathlib.Core.Path.{◌≡◌}
-use Rattle.verdict.specs.declared.Verdict.TheVariants.{Done}
+use Rattle.verdict.specs.Refusal.{Done}
 use Rattle.verdict.specs.File.{in_order}
 use Rattle.frame.proofs.list.check_list.Given as goal
 

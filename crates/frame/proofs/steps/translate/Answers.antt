@@ -6,7 +6,7 @@ use Rattle.frame.specs.declared.list.Transaction.{Transaction}
 use Rattle.frame.specs.Steps.{step_at, steps_of}
 use mathlib.Core.List.{map}
 use lib.ListN.{take, drop, length}
-use Rattle.verdict.specs.declared.Verdict.TheVariants.{Done}
+use Rattle.verdict.specs.Refusal.{Done}
 use Rattle.verdict.proofs.Lists.{map-tabulate}
 use Prim.Native.Nat.{ℕ, ◌+◌, ◌*◌, ◌-◌}
 use native.Mathlib.Omega.{arith}

@@ -1,7 +1,7 @@
 -- The checks come in the document's order, each refusal where its answer comes in; then all clocks.
 use Rattle.std.proofs.Common.{◌≡◌, ◌*◌, ℕ, List, length, ◌≤◌, sym, ap, ◌∙◌, arith}
 use borrow.Author.Tests.{le-ltb}
-use Rattle.verdict.specs.declared.Verdict.TheVariants.{Done}
+use Rattle.verdict.specs.Refusal.{Done}
 use Rattle.verdict.specs.Refusal.{wrong_step}
 use Rattle.verdict.proofs.Checks.{passed-bytes}
 use Rattle.frame.specs.Steps.{most_steps, largest_step}
