@@ -27,7 +27,7 @@ use Rattle.frame.proofs.Laws.{length-translation}
 use Rattle.board.specs.declared.Board.{Board}
 use Rattle.board.specs.Check.{checked}
 use Rattle.board.specs.Events.{events_verdict}
-use Rattle.between.specs.declared.Outcome.{Outcome}
+use Rattle.board.specs.Outcome.{Told}
 use Rattle.between.specs.Outcome.{outcome_of}
 use Rattle.wire_machine.specs.Run.{steps_verdict, running, log_of_run, Ran}
 use Rattle.verdict.proofs.Outputs.{room-done}

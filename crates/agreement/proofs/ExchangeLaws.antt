@@ -25,7 +25,7 @@ use Rattle.board.specs.Check.{checked}
 use Rattle.board.specs.Typed.{TypedBoard}
 use Rattle.board.proofs.LoadSound.{load-sound}
 use Rattle.board.proofs.LoadTyped.{load_typed}
-use Rattle.between.specs.declared.Outcome.{Outcome}
+use Rattle.board.specs.Outcome.{Told}
 use Rattle.between.specs.Outcome.{outcome_of, phys_of, with_phys, handed_back}
 use Rattle.wire_machine.specs.Run.{phys_after_run}
 use Rattle.plain_machine.specs.Plain.{planning, answers_of_plain, phys_after_plain, board_after_plain, Planned}

@@ -12,7 +12,7 @@ use Rattle.frame.specs.Answers.{answer_bytes, answers_in}
 use Rattle.board.specs.declared.Board.{Board}
 use Rattle.board.specs.Check.{checked}
 use Rattle.board.specs.Events.{events_verdict}
-use Rattle.between.specs.declared.Outcome.{Outcome}
+use Rattle.board.specs.Outcome.{Told}
 use Rattle.between.specs.Outcome.{HandsBack}
 use Rattle.wire_machine.specs.Run.{log_of_run, board_after_run}
 use Rattle.plain_machine.specs.Plain.{planning}
@@ -39,7 +39,7 @@ abbrev pub board_after_exchange : Board → List ℕ → List ℕ → Board
 board_after_exchange board list events = board_after_run board (translation list) events
 
 -- what `send` promises
-abbrev pub Sent : Board → List ℕ → List ℕ → List ℕ → Outcome → List ℕ → Type 0
+abbrev pub Sent : Board → List ℕ → List ℕ → List ℕ → Told → List ℕ → Type 0
 Sent board list events out r out' =
     HandsBack (sending board list events out) (log_of_exchange board list events) (board_after_exchange board list events) board out r out'
 
@@ -48,12 +48,12 @@ abbrev pub answers_of_exchange : Board → List ℕ → List ℕ → List Answer
 answers_of_exchange board list events = answers_in list (log_of_exchange board list events)
 
 -- what `exchange` promises
-abbrev pub Exchanged : Board → List ℕ → List ℕ → List ℕ → Outcome → List ℕ → Type 0
+abbrev pub Exchanged : Board → List ℕ → List ℕ → List ℕ → Told → List ℕ → Type 0
 Exchanged board list events out r out' =
     HandsBack (planning board list events out) (join (map answer_bytes (answers_of_exchange board list events))) (board_after_exchange board list events) board out r out'
 
 -- what `exchange` and `plain` have in common: answer, output, and in every place of the board the registers and the link
-pub record SameAsPlain (exchanged planned : Outcome) (out₁ out₂ : List ℕ) : Type 0 where
+pub record SameAsPlain (exchanged planned : Told) (out₁ out₂ : List ℕ) : Type 0 where
   pub verdict : exchanged.verdict ≡ planned.verdict
   pub output : out₁ ≡ out₂
   pub count : exchanged.board.count ≡ planned.board.count

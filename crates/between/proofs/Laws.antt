@@ -7,7 +7,7 @@ use Rattle.verdict.specs.Refusal.{Done, Refused}
 use Rattle.verdict.specs.Output.{written}
 use Rattle.verdict.proofs.Outputs.{writes-unique, refuses, succeeds}
 use Rattle.board.specs.declared.Board.{Board}
-use Rattle.between.specs.declared.Outcome.{Outcome}
+use Rattle.board.specs.Outcome.{Told}
 use Rattle.between.specs.Outcome.{HandsBack}
 
 module _ {answer : Verdict} {result : List ℕ} {after before : Board} {out : List ℕ} where

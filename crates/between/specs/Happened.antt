@@ -1,5 +1,5 @@
 -- Document 01, "Records": "Events at one clock act in file order." The records of an event file one after the other, as a machine goes through them, and the place of each.
-use Rattle.std.specs.Prelude.{ℕ, zero, suc, Bool, ◌&&◌, cond, List, [], ◌∷◌, map, eqb, ltb, leb}
+use Rattle.std.specs.Prelude.{ℕ, zero, suc, Bool, ◌&&◌, cond, List, [], ◌∷◌, length, map, eqb, ltb, leb, Option, Some, None}
 use Rattle.verdict.specs.File.{records}
 use Rattle.phy.specs.declared.own.Own.{Own}
 use Rattle.phy.specs.declared.Phy.{Phy}
@@ -11,6 +11,10 @@ use Rattle.board.specs.Events.{event_record, event_clock, event_address, event_c
 unfoldable pub first_of : {A : Type 0} → (A → Bool) → List A → ℕ
 first_of test [] = 0
 first_of test (x ∷ xs) = cond (test x) 0 (suc (first_of test xs))
+
+-- a place, where it is one of the list's
+abbrev pub found_at : {A : Type 0} → ℕ → List A → Option ℕ
+found_at place xs = cond (ltb place (length xs)) (Some place) None
 
 -- the place of the PHY that has an address, and of the one that takes frames to it
 abbrev pub place_of : List Own → ℕ → ℕ

@@ -6,11 +6,7 @@ use Rattle.verdict.specs.Output.{Writes}
 use Rattle.phy.specs.declared.own.Own.{Own}
 use Rattle.phy.specs.declared.Phy.{Phy}
 use Rattle.board.specs.declared.Board.{Board}
-use Rattle.between.specs.declared.Outcome.{Outcome}
-
--- an outcome by its parts
-abbrev pub outcome_of : Verdict → Board → Outcome
-outcome_of verdict board = record { verdict = verdict; board = board }
+use Rattle.board.specs.Outcome.{Told}
 
 -- the PHYs of a board, and the board with others in their places
 abbrev pub phys_of : Board → List Phy
@@ -29,6 +25,6 @@ handed_back (Done n) after before = after
 handed_back (Refused number index) after before = before
 
 -- what a call that takes a board promises: its answer, every byte of its output, and the board that it hands back
-pub record HandsBack (answer : Verdict) (result : List ℕ) (after before : Board) (out : List ℕ) (r : Outcome) (out' : List ℕ) : Type 0 where
+pub record HandsBack (answer : Verdict) (result : List ℕ) (after before : Board) (out : List ℕ) (r : Told) (out' : List ℕ) : Type 0 where
   pub writes : Writes answer result out r.verdict out'
   pub board : r.board ≡ handed_back answer after before

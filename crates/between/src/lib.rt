@@ -5,25 +5,5 @@
 mod events;
 mod owners;
 
-ghost use Rattle.std.specs.Prelude.{◌≡◌};
-ghost use Rattle.between.specs.Outcome.{outcome_of};
-
-use board::Board;
 pub use events::is_due;
 pub use owners::{owns_of, place_of, taker_of};
-use verdict::Verdict;
-
-// What a machine hands back.
-#[derive(Clone, Copy)]
-pub struct Outcome {
-    pub verdict: Verdict,
-    pub board: Board,
-}
-
-impl Outcome {
-    pub fn of(verdict: Verdict, board: Board) -> Outcome
-        ensures { result ≡ outcome_of verdict board }
-    {
-        Outcome { verdict, board }
-    }
-}

@@ -4,12 +4,12 @@ use mathlib.Core.List.{List}
 use mathlib.Core.Path.{◌≡◌, sym, ◌∙◌}
 use Rattle.verdict.specs.Refusal.{Verdict}
 use Rattle.board.specs.declared.Board.{Board}
-use Rattle.board.specs.declared.Loaded.{Loaded}
+use Rattle.board.specs.Outcome.{Told}
 use Rattle.board.specs.Check.{checked}
 use Rattle.board.specs.Load.{loaded}
 use Rattle.board.specs.Events.{events_verdict}
 
-pub load-unique : (file : List ℕ) (r s : Loaded) → r ≡ loaded file → s ≡ loaded file → r ≡ s
+pub load-unique : (file : List ℕ) (r s : Told) → r ≡ loaded file → s ≡ loaded file → r ≡ s
 load-unique file r s p q = p ∙ sym q
 
 pub check-unique : (board : Board) (r s : Verdict) → r ≡ checked board → s ≡ checked board → r ≡ s

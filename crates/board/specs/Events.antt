@@ -4,8 +4,6 @@ use Rattle.verdict.specs.Refusal.{Verdict}
 use Rattle.verdict.specs.Refusal.{wrong_event, wrong_clock, ◌when◌, ◌else◌}
 use Rattle.verdict.specs.File.{byte_at, word_at, file_verdict}
 use Rattle.board.specs.declared.Board.{Board}
-use Rattle.board.specs.declared.events.EventRecord.{EventRecord}
-use Rattle.board.specs.declared.events.EventRecord.TheVariants.{Good, Bad}
 use Rattle.board.specs.Record.{has_address}
 use Rattle.board.specs.Check.{places}
 
@@ -51,15 +49,6 @@ event_fault_as there events last k = wrong_event when event_wrong_as there event
 
 unfoldable pub event_fault : Board → List ℕ → ℕ → ℕ → ℕ
 event_fault board events last k = event_fault_as (on_board board (event_address events k)) events last k
-
--- a record is good, and its event comes after this clock, or bad with a refusal's number
-abbrev pub judged : ℕ → ℕ → EventRecord
-judged zero clock = Good clock
-judged (suc number) clock = Bad (suc number)
-
-abbrev pub refusal_of : EventRecord → ℕ
-refusal_of (Good clock) = 0
-refusal_of (Bad number) = number
 
 -- the event file's checks on a board, where `last` is the last clock: 1, 2, then its records in order by 8 and 9
 abbrev pub events_verdict : Board → List ℕ → ℕ → Verdict

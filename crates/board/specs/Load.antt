@@ -11,7 +11,7 @@ use Rattle.phy.specs.Record.{any, register_count}
 use Rattle.phy.specs.Clock.{fresh}
 use Rattle.phy.specs.Sound.{blank}
 use Rattle.board.specs.declared.Board.{Board}
-use Rattle.board.specs.declared.Loaded.{Loaded}
+use Rattle.board.specs.Outcome.{Told}
 use Rattle.board.specs.Record.{fault_of}
 use Rattle.board.specs.Check.{places}
 
@@ -68,13 +68,13 @@ board_of n phy = record { count = n; phys = tabulate n phy ++ drop n (replicate 
 abbrev pub no_phys : Board
 no_phys = board_of 0 (λ k. blank)
 
-abbrev pub refused_load : ℕ → ℕ → Loaded
+abbrev pub refused_load : ℕ → ℕ → Told
 refused_load number index = record { verdict = Refused number index; board = no_phys }
 
-abbrev pub loaded_by : Verdict → List ℕ → Loaded
+abbrev pub loaded_by : Verdict → List ℕ → Told
 loaded_by (Done n) file = record { verdict = Done n; board = board_of n (phy_at file) }
 loaded_by (Refused number index) file = refused_load number index
 
 -- what `load` answers
-unfoldable pub loaded : List ℕ → Loaded
+unfoldable pub loaded : List ℕ → Told
 loaded file = loaded_by (board_verdict file) file

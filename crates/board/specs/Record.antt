@@ -8,7 +8,6 @@ use Rattle.phy.specs.Fields.{PhyRecord}
 use Rattle.phy.specs.Record.{any, register_set_right, defaults_right}
 use Rattle.phy.specs.Sound.{nowhere}
 use Rattle.board.specs.declared.record.Record.{Record}
-use Rattle.board.specs.declared.record.Record.TheVariants.{Good, Bad}
 
 -- 3: "PHY address (..) over 31, a zero byte not zero"
 abbrev pub fields_wrong : ℕ → PhyRecord → Bool
@@ -34,11 +33,6 @@ fault_of zero_byte used r =
     else wrong_register_set when not (register_set_right r.own.implemented r.defaults)
     else wrong_default when not (defaults_right r.own.implemented r.defaults r.masks)
 
--- a record is good, and its PHY is this one, or bad with a refusal's number
-abbrev pub judged : ℕ → Own → Record
-judged zero own = Good own
-judged (suc number) own = Bad (suc number)
-
-abbrev pub refusal_of : Record → ℕ
-refusal_of (Good own) = 0
-refusal_of (Bad number) = number
+-- what the code holds of a record
+abbrev pub record_in : Record → PhyRecord
+record_in r = record { own = r.own; defaults = r.defaults; masks = r.masks }

@@ -1,31 +1,14 @@
 // The event file (document 01, "Records": "Events, 4 bytes, 0 to 256: clock number (2 bytes), PHY address, code").
 ghost use Rattle.std.specs.Prelude.{◌≡◌, false, ℕ, ◌+◌, ◌*◌, ◌≤◌, ◌<◌, min, get_or, eqb};
 ghost use Rattle.verdict.specs.File.{byte_at};
+ghost use Rattle.verdict.specs.Refusal.{said, judged, judged_by};
 ghost use Rattle.phy.specs.Record.{any};
-ghost use Rattle.board.specs.Events.{event_record, event_clock, event_address, event_code, clock_before, event_fault_as, judged, refusal_of, events_verdict};
+ghost use Rattle.board.specs.Events.{event_record, event_clock, event_address, event_code, clock_before, event_fault_as, events_verdict};
 ghost use Rattle.board.specs.Check.{places};
 
 use crate::{Board, record};
 use phy::Event;
-use verdict::Verdict;
-
-// A record of the event file is good, and its event comes after this clock, or bad with a refusal's number.
-#[derive(Clone, Copy)]
-enum EventRecord {
-    Good(u16),
-    Bad(u8),
-}
-
-impl EventRecord {
-    fn refusal(self) -> u8
-        ensures { result ≡ refusal_of self }
-    {
-        match self {
-            EventRecord::Good(_) => 0,
-            EventRecord::Bad(number) => number,
-        }
-    }
-}
+use verdict::{Fault, Refusal};
 
 // A byte of the event record at index k; past the file's end a byte reads 0.
 fn byte_of(events: &[u8], k: usize, offset: usize) -> u8
@@ -61,11 +44,7 @@ pub fn code_of(events: &[u8], k: usize) -> u8
 fn places_of(board: Board) -> usize
     ensures { result ≡ min board.count places }
 {
-    if Board::PLACES < board.count {
-        Board::PLACES
-    } else {
-        board.count
-    }
+    board.count.min(Board::PLACES)
 }
 
 // Which addresses are among the first n of these: a table to ask for each event, in place of a walk. It is made of the addresses
@@ -75,53 +54,49 @@ fn table_of(addresses: [u8; 32], n: usize) -> [bool; 256]
     ensures { (address : ℕ) → get_or result address false ≡ any n (λ i. eqb (get_or addresses i 0) address) }
 {
     let mut there = [false; 256];
-    let mut i: usize = 0;
-    while i < n {
-        there[addresses[i] as usize] = true;
-        i += 1;
+    for address in &addresses[..n] {
+        there[*address as usize] = true;
     }
     there
 }
 
 // Checks 8 and 9 of the event record at index k, where `there` is whether its address is on the board and `before` the clock of
-// the record before it.
-fn judge_event(there: bool, events: &[u8], last: usize, k: usize, before: u16) -> EventRecord
+// the record before it. A good record's event comes after this clock.
+fn judge_event(there: bool, events: &[u8], last: usize, k: usize, before: u16) -> Result<u16, Fault>
     requires { before ≡ clock_before events.now k }
-    ensures { result ≡ judged (event_fault_as there events.now last k) (event_clock events.now k) }
+    ensures { judged result ≡ judged_by (event_fault_as there events.now last k) (event_clock events.now k) }
 {
     let clock = clock_of(events, k);
     let code = code_of(events, k);
     if !((Event::LINK_UP <= code) & (code <= Event::RESET_DONE)) | !there {
-        return EventRecord::Bad(Verdict::WRONG_EVENT);
+        return Err(Fault::WrongEvent);
     }
     if (clock < before) | (last < clock as usize) {
-        return EventRecord::Bad(Verdict::WRONG_CLOCK);
+        return Err(Fault::WrongClock);
     }
-    EventRecord::Good(clock)
+    Ok(clock)
 }
 
 // The event file's checks on a board, where `last` is the last clock.
-pub fn check_events(board: Board, events: &[u8], last: usize) -> Verdict
-    ensures { result ≡ events_verdict board events.now last }
+pub fn check_events(board: Board, events: &[u8], last: usize) -> Result<usize, Refusal>
+    ensures { said result ≡ events_verdict board events.now last }
 {
     if events.len() % Board::EVENT_RECORD != 0 {
-        return Verdict::Refused(Verdict::WRONG_LENGTH, 0);
+        return Err(Fault::WrongLength.at(0));
     }
     let count = events.len() / Board::EVENT_RECORD;
     if Board::MOST_EVENTS < count {
-        return Verdict::Refused(Verdict::TOO_MANY, 0);
+        return Err(Fault::TooMany.at(0));
     }
     let there = table_of(record::addresses_of(board), places_of(board));
     let mut before: u16 = 0;
-    let mut k: usize = 0;
-    while k < count {
+    for k in 0..count {
         let address = address_of(events, k) as usize;
         let event = judge_event(there[address], events, last, k, before);
-        let EventRecord::Good(clock) = event else {
-            return Verdict::Refused(event.refusal(), k);
+        let Ok(clock) = event else {
+            return Err(event.unwrap_err().at(k));
         };
         before = clock;
-        k += 1;
     }
-    Verdict::Done(count)
+    Ok(count)
 }

@@ -9,12 +9,14 @@ mod record;
 mod sound;
 
 ghost use Rattle.std.specs.Prelude.{◌≡◌};
+ghost use Rattle.verdict.specs.Refusal.{said};
 ghost use Rattle.board.specs.Check.{checked};
+ghost use Rattle.board.specs.Outcome.{outcome_of};
 
 pub use events::{address_of, check_events, clock_of, code_of};
 pub use file::load;
 use phy::Phy;
-use verdict::Verdict;
+use verdict::{Fault, Refusal};
 
 #[derive(Clone, Copy)]
 pub struct Board {
@@ -35,39 +37,44 @@ impl Board {
     pub const MOST_EVENTS: usize = 256;
 }
 
-// What a load of the board file hands back.
+// What a call that loads or changes a board answers, and the board that it hands back. A refusal hands one back too, as document 01 has it:
+// the board that was given, and of a load the board of no PHYs. So the answer stands beside the board, and the board not in it.
 #[derive(Clone, Copy)]
-pub struct Loaded {
-    pub verdict: Verdict,
+pub struct Outcome {
+    pub verdict: Result<usize, Refusal>,
     pub board: Board,
 }
 
-// Whether a board is sound: done with the number of PHYs, or refusal 12 at the lowest place at fault.
-pub fn check(board: Board) -> Verdict
-    ensures { result ≡ checked board }
+impl Outcome {
+    pub fn of(verdict: Result<usize, Refusal>, board: Board) -> Outcome
+        ensures { result ≡ outcome_of verdict board }
+    {
+        Outcome { verdict, board }
+    }
+}
+
+// Whether a board is sound: Ok with the number of PHYs, or refusal 12 at the lowest place at fault.
+pub fn check(board: Board) -> Result<usize, Refusal>
+    ensures { said result ≡ checked board }
 {
     let count = board.count;
     if Board::PLACES < count {
-        return Verdict::Refused(Verdict::NOT_SOUND, Board::PLACES);
+        return Err(Fault::NotSound.at(Board::PLACES));
     }
     // Which addresses the places before have.
     let mut taken = [false; 256];
-    let mut k: usize = 0;
-    while k < count {
+    for k in 0..count {
         let address = board.phys[k].own.address as usize;
         let passes = sound::record_passes(board.phys[k], taken[address]);
         if !(passes & sound::phy_sound(board.phys[k])) {
-            return Verdict::Refused(Verdict::NOT_SOUND, k);
+            return Err(Fault::NotSound.at(k));
         }
         taken[address] = true;
-        k += 1;
     }
-    let mut place = count;
-    while place < Board::PLACES {
+    for place in count..Board::PLACES {
         if !sound::is_blank(board.phys[place]) {
-            return Verdict::Refused(Verdict::NOT_SOUND, place);
+            return Err(Fault::NotSound.at(place));
         }
-        place += 1;
     }
-    Verdict::Done(count)
+    Ok(count)
 }

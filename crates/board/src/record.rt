@@ -2,30 +2,20 @@
 ghost use Rattle.std.specs.Prelude.{◌≡◌, ◌<◌};
 ghost use Rattle.phy.specs.Abilities.{one};
 ghost use Rattle.phy.specs.Record.{register_count, others_implemented, register_set_right, unimplemented_zero, fastest, derived_control, words_right, defaults_right};
-ghost use Rattle.board.specs.Record.{addresses_of, fault_of, judged, refusal_of};
+ghost use Rattle.verdict.specs.Refusal.{finding};
+ghost use Rattle.board.specs.Record.{addresses_of, fault_of, record_in};
 
 use crate::Board;
 use crate::bits::Register;
 use phy::{Control, ExtendedStatus, Own, Status};
-use verdict::Verdict;
+use verdict::Fault;
 
-// A record of the board file is good, and its PHY is this one, or bad with a refusal's number. The words of a good record stand
-// beside it, since an enum holds no arrays.
+// What a record of the board file says of its PHY.
 #[derive(Clone, Copy)]
-pub(crate) enum Record {
-    Good(Own),
-    Bad(u8),
-}
-
-impl Record {
-    pub(crate) fn refusal(self) -> u8
-        ensures { result ≡ refusal_of self }
-    {
-        match self {
-            Record::Good(_) => 0,
-            Record::Bad(number) => number,
-        }
-    }
+pub(crate) struct Record {
+    pub(crate) own: Own,
+    pub(crate) defaults: [u16; 32],
+    pub(crate) masks: [u16; 32],
 }
 
 // Whether an implemented mask has a register.
@@ -41,34 +31,6 @@ fn others_implemented(implemented: u32) -> bool
     ensures { result ≡ others_implemented implemented }
 {
     implemented & Register::OTHERS != 0
-}
-
-// Check 5.
-fn register_set_right(implemented: u32, defaults: [u16; 32]) -> bool
-    ensures { result ≡ register_set_right implemented defaults }
-{
-    let status = defaults[Register::STATUS];
-    let basic = has(implemented, Register::CONTROL)
-        & (has(implemented, Register::STATUS)
-            & (!has(implemented, Register::MMD_CONTROL) & !has(implemented, Register::MMD_DATA)));
-    let extended_status = has(implemented, Register::EXTENDED_STATUS)
-        == (status & Status::EXTENDED_STATUS != 0);
-    let extended = (status & Status::EXTENDED_CAPABILITY != 0) == others_implemented(implemented);
-    basic & (extended_status & extended)
-}
-
-// Check 6 on registers that are not implemented. A loop over the registers gathers their tests and stops at none, so that it
-// is compiled to tests of eight registers at a time.
-fn unimplemented_zero(implemented: u32, defaults: [u16; 32], masks: [u16; 32]) -> bool
-    ensures { result ≡ unimplemented_zero implemented defaults masks }
-{
-    let mut zero = true;
-    let mut r: usize = 0;
-    while r < Register::COUNT {
-        zero = zero & (has(implemented, r) | ((defaults[r] == 0) & (masks[r] == 0)));
-        r += 1;
-    }
-    zero
 }
 
 // The fastest speed that is able, as bits 6 and 13 of register 0.
@@ -112,64 +74,81 @@ fn words_right(control: u16, status: u16, extended: u16) -> bool
             & (able & (control == derived + (control & Control::ISOLATE))))
 }
 
-// Check 6.
-fn defaults_right(implemented: u32, defaults: [u16; 32], masks: [u16; 32]) -> bool
-    ensures { result ≡ defaults_right implemented defaults masks }
-{
-    let idle = unimplemented_zero(implemented, defaults, masks);
-    let words = words_right(
-        defaults[Register::CONTROL],
-        defaults[Register::STATUS],
-        defaults[Register::EXTENDED_STATUS],
-    );
-    let fixed = (masks[Register::CONTROL] == 0)
-        & ((masks[Register::STATUS] == 0)
-            & ((masks[Register::IDENTIFIER_HIGH] == 0)
-                & ((masks[Register::IDENTIFIER_LOW] == 0)
-                    & (masks[Register::EXTENDED_STATUS] == 0))));
-    idle & (fixed & words)
-}
-
 // The address at each place: a few bytes to look through in place of a whole board.
 pub(crate) fn addresses_of(board: Board) -> [u8; 32]
     ensures { result ≡ addresses_of board.phys }
 {
     let mut addresses = [0u8; 32];
-    let mut i: usize = 0;
-    while i < Board::PLACES {
+    for i in 0..Board::PLACES {
         addresses[i] = board.phys[i].own.address;
-        i += 1;
     }
     addresses
 }
 
-// What checks 3 to 6 find of a record, a refusal's number or 0, where `used` is whether an earlier one has its address.
-pub(crate) fn fault(zero: u8, used: bool, own: Own, defaults: [u16; 32], masks: [u16; 32]) -> u8
-    ensures { result ≡ fault_of zero used (record { own = own; defaults = defaults; masks = masks }) }
-{
-    if (Board::LAST_ADDRESS < own.address) | (zero != 0) {
-        return Verdict::WRONG_FIELD;
+impl Record {
+    // Check 5.
+    fn register_set_right(self) -> bool
+        ensures { result ≡ register_set_right self.own.implemented self.defaults }
+    {
+        let implemented = self.own.implemented;
+        let status = self.defaults[Register::STATUS];
+        let basic = has(implemented, Register::CONTROL)
+            & (has(implemented, Register::STATUS)
+                & (!has(implemented, Register::MMD_CONTROL)
+                    & !has(implemented, Register::MMD_DATA)));
+        let extended_status = has(implemented, Register::EXTENDED_STATUS)
+            == (status & Status::EXTENDED_STATUS != 0);
+        let extended = (status & Status::EXTENDED_CAPABILITY != 0)
+            == others_implemented(implemented);
+        basic & (extended_status & extended)
     }
-    if used {
-        return Verdict::ADDRESS_USED;
-    }
-    if !register_set_right(own.implemented, defaults) {
-        return Verdict::WRONG_REGISTER_SET;
-    }
-    if !defaults_right(own.implemented, defaults, masks) {
-        return Verdict::WRONG_DEFAULT;
-    }
-    0
-}
 
-// A record by its checks.
-pub(crate) fn judge(zero: u8, used: bool, own: Own, defaults: [u16; 32], masks: [u16; 32]) -> Record
-    ensures { result ≡ judged (fault_of zero used (record { own = own; defaults = defaults; masks = masks })) own }
-{
-    let number = fault(zero, used, own, defaults, masks);
-    if number == 0 {
-        Record::Good(own)
-    } else {
-        Record::Bad(number)
+    // Check 6 on registers that are not implemented. A loop over the registers gathers their tests and stops at none, so that it
+    // is compiled to tests of eight registers at a time.
+    fn unimplemented_zero(self) -> bool
+        ensures { result ≡ unimplemented_zero self.own.implemented self.defaults self.masks }
+    {
+        let mut zero = true;
+        for r in 0..Register::COUNT {
+            zero &= has(self.own.implemented, r) | ((self.defaults[r] == 0) & (self.masks[r] == 0));
+        }
+        zero
+    }
+
+    // Check 6.
+    fn defaults_right(self) -> bool
+        ensures { result ≡ defaults_right self.own.implemented self.defaults self.masks }
+    {
+        let idle = self.unimplemented_zero();
+        let words = words_right(
+            self.defaults[Register::CONTROL],
+            self.defaults[Register::STATUS],
+            self.defaults[Register::EXTENDED_STATUS],
+        );
+        let fixed = (self.masks[Register::CONTROL] == 0)
+            & ((self.masks[Register::STATUS] == 0)
+                & ((self.masks[Register::IDENTIFIER_HIGH] == 0)
+                    & ((self.masks[Register::IDENTIFIER_LOW] == 0)
+                        & (self.masks[Register::EXTENDED_STATUS] == 0))));
+        idle & (fixed & words)
+    }
+
+    // Checks 3 to 6, where `used` is whether an earlier record has the address.
+    pub(crate) fn check(self, zero: u8, used: bool) -> Result<(), Fault>
+        ensures { finding result ≡ fault_of zero used (record_in self) }
+    {
+        if (Board::LAST_ADDRESS < self.own.address) | (zero != 0) {
+            return Err(Fault::WrongField);
+        }
+        if used {
+            return Err(Fault::AddressUsed);
+        }
+        if !self.register_set_right() {
+            return Err(Fault::WrongRegisterSet);
+        }
+        if !self.defaults_right() {
+            return Err(Fault::WrongDefault);
+        }
+        Ok(())
     }
 }

@@ -4,7 +4,8 @@ ghost use Rattle.board.specs.Check.{passes_as};
 ghost use Rattle.phy.specs.Sound.{control_right, registers_stand, others_at_default, reset_stands, follower_sound, in_own_read, phy_sound, zeros, hunts_fresh, is_blank, blank};
 
 use crate::bits::Register;
-use crate::{bits, record};
+use crate::bits;
+use crate::record::Record;
 use phy::{Control, Own, Phy, Status};
 use wire::{Follower, Header};
 
@@ -13,11 +14,9 @@ fn registers_stand(phy: Phy) -> bool
     ensures { result ≡ registers_stand phy }
 {
     let mut all = true;
-    let mut r: usize = 0;
-    while r < Register::COUNT {
+    for r in 0..Register::COUNT {
         let stands = bits::stands_outside(phy.masks[r], phy.registers[r], phy.defaults[r]);
-        all = all & ((r <= Register::STATUS) | stands);
-        r += 1;
+        all &= (r <= Register::STATUS) | stands;
     }
     all
 }
@@ -45,10 +44,8 @@ fn others_at_default(phy: Phy) -> bool
     ensures { result ≡ others_at_default phy }
 {
     let mut all = true;
-    let mut r: usize = 0;
-    while r < Register::COUNT {
-        all = all & ((r == Register::CONTROL) | (phy.registers[r] == phy.defaults[r]));
-        r += 1;
+    for r in 0..Register::COUNT {
+        all &= (r == Register::CONTROL) | (phy.registers[r] == phy.defaults[r]);
     }
     all
 }
@@ -129,13 +126,7 @@ pub(crate) fn phy_sound(phy: Phy) -> bool
 fn zeros(words: [u16; 32]) -> bool
     ensures { result ≡ zeros words }
 {
-    let mut all = true;
-    let mut r: usize = 0;
-    while r < Register::COUNT {
-        all = all & (words[r] == 0);
-        r += 1;
-    }
-    all
+    words == [0; 32]
 }
 
 // Hunting with 0 ones.
@@ -181,7 +172,10 @@ pub(crate) fn blank() -> Phy
 pub(crate) fn record_passes(phy: Phy, used: bool) -> bool
     ensures { result ≡ passes_as used phy }
 {
-    let defaults = phy.defaults;
-    let masks = phy.masks;
-    record::fault(0, used, phy.own, defaults, masks) == 0
+    let record = Record {
+        own: phy.own,
+        defaults: phy.defaults,
+        masks: phy.masks,
+    };
+    record.check(0, used).is_ok()
 }

@@ -14,8 +14,7 @@
 use crate::buffers::{Answers, Events, File, List, Log, Steps, Text};
 use crate::script::Word;
 use crate::text;
-use between::Outcome;
-use board::Board;
+use board::{Board, Outcome};
 use std::io;
 
 // The first bytes of a buffer; all of it where it has fewer.

@@ -17,6 +17,7 @@ use buffers::{Answers, Events, File, List, Log, Steps, Text};
 use script::Word;
 use std::io;
 use std::io::Read;
+use verdict::zeroed;
 
 // What a word of a case does, to the buffers and to the board. A misspelt one shows as a question mark.
 fn obey(
@@ -127,12 +128,6 @@ fn try_lines(rt: &impl Print, cases: &[u8]) -> io::Result<()> {
 // More bytes than the cases have.
 const INPUT: usize = 65536;
 
-fn room_for_input() -> [u8; INPUT]
-    ensures { 65536 ≡ length result }
-{
-    [0; INPUT]
-}
-
 // Reads until the buffer is full, the input ends or a read fails, and answers how many bytes it put at the start of the buffer.
 fn read_full<R: Read>(reader: &mut R, buffer: &mut [u8]) -> usize
     ensures within { result ≤ length buffer.new }
@@ -152,7 +147,7 @@ fn read_full<R: Read>(reader: &mut R, buffer: &mut [u8]) -> usize
 }
 
 fn main(rt: HostRuntime) -> io::Result<()> {
-    let mut input = room_for_input();
+    let mut input = zeroed::<INPUT>();
     let count = read_full(&mut rt.reader(), &mut input);
     try_lines(&rt, &input[..count])
 }

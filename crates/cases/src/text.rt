@@ -1,6 +1,6 @@
 // What the cases print.
 use std::io;
-use verdict::Verdict;
+use verdict::Refusal;
 
 pub(crate) fn words(rt: &impl Print, text: &[u8]) -> io::Result<()> {
     rt.write_all(text)
@@ -11,18 +11,10 @@ pub(crate) fn number(rt: &impl Print, n: usize) -> io::Result<()> {
 }
 
 // An answer: `done N` or `refused N at INDEX`.
-pub(crate) fn answer(rt: &impl Print, verdict: Verdict) -> io::Result<()> {
-    match verdict {
-        Verdict::Done(n) => {
-            words(rt, b" done")?;
-            number(rt, n)
-        }
-        Verdict::Refused(refusal, index) => {
-            words(rt, b" refused")?;
-            number(rt, refusal as usize)?;
-            words(rt, b" at")?;
-            number(rt, index)
-        }
+pub(crate) fn answer(rt: &impl Print, answer: Result<usize, Refusal>) -> io::Result<()> {
+    match answer {
+        Ok(n) => print!(rt; " done {n}"),
+        Err(refusal) => print!(rt; " {refusal}"),
     }
 }
 

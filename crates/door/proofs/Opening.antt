@@ -6,7 +6,7 @@ use Rattle.verdict.specs.Refusal.{Verdict}
 use Rattle.verdict.specs.Refusal.{Done, Refused}
 use Rattle.verdict.specs.Output.{Writes}
 use Rattle.board.specs.declared.Board.{Board}
-use Rattle.board.specs.declared.Loaded.{Loaded}
+use Rattle.board.specs.Outcome.{Told}
 use Rattle.board.specs.Load.{loaded}
 use Rattle.waveform.specs.Waveform.{ReadBack}
 use Rattle.waveform.proofs.ReadBack.{reading-both}
@@ -26,7 +26,7 @@ opens-reading read e = record { ours = λ log writes. opens (read.ours log write
 pub reading-unique : {text out out₁ out₂ : List ℕ} {r s : ℕ} → OpensReadVcd text out r out₁ → OpensReadVcd text out s out₂ → (r ≡ s) × (out₁ ≡ out₂)
 reading-unique p q = reading-both (λ answer result. opens-unique) p q
 
-module _ (file : List ℕ) (l : Loaded) (same : l ≡ loaded file) (call : Board → Verdict) (result : Board → List ℕ) {out : List ℕ} where
+module _ (file : List ℕ) (l : Told) (same : l ≡ loaded file) (call : Board → Verdict) (result : Board → List ℕ) {out : List ℕ} where
   -- a refused board file: nothing else is asked
   pub opens-refused : {r number index : ℕ} → l.verdict ≡ Refused number index → r ≡ code_of l.verdict → Opens (with_board file call) (result (loaded file).board) out r out
   opens-refused refused e = rw (← same, refused) (record { code = e ∙ ap code_of refused; output = λ i. out })

@@ -3,22 +3,23 @@
 #![tactic(auto)]
 
 ghost use Rattle.std.specs.Prelude.{◌≡◌};
+ghost use Rattle.verdict.specs.Refusal.{said};
 ghost use Rattle.door.specs.Door.{code_of, OpensTranslate, OpensDecode, OpensRun, OpensPlain, OpensListen, OpensWriteVcd, OpensReadVcd};
 
 use board::load;
 use frame::{decode, translate};
 use listener::listen;
 use plain_machine::plain;
-use verdict::Verdict;
+use verdict::Refusal;
 use waveform::{read_vcd, write_vcd};
 use wire_machine::run;
 
-fn code(answer: Verdict) -> u64
-    ensures { result ≡ code_of answer }
+fn code(answer: Result<usize, Refusal>) -> u64
+    ensures { result ≡ code_of (said answer) }
 {
     match answer {
-        Verdict::Done(_) => 0,
-        Verdict::Refused(number, index) => number as u64 * 65536 + (index % 65536) as u64,
+        Ok(_) => 0,
+        Err(refusal) => u64::from(u8::from(refusal.fault)) * 65536 + (refusal.index % 65536) as u64,
     }
 }
 
@@ -34,13 +35,10 @@ pub extern "C" fn taksherub_run(board: &[u8], steps: &[u8], events: &[u8], log: 
     ensures { OpensRun board.now steps.now events.now log.old result log.new }
 {
     let loaded = load(board);
-    let verdict = loaded.verdict;
-    let Verdict::Done(_) = verdict else {
-        return code(verdict);
+    let Ok(_) = loaded.verdict else {
+        return code(loaded.verdict);
     };
-    let outcome = run(loaded.board, steps, events, log);
-    let answer = outcome.verdict;
-    code(answer)
+    code(run(loaded.board, steps, events, log).verdict)
 }
 
 #[unsafe(no_mangle)]
@@ -60,13 +58,10 @@ pub extern "C" fn taksherub_plain(
     ensures { OpensPlain board.now list.now events.now answers.old result answers.new }
 {
     let loaded = load(board);
-    let verdict = loaded.verdict;
-    let Verdict::Done(_) = verdict else {
-        return code(verdict);
+    let Ok(_) = loaded.verdict else {
+        return code(loaded.verdict);
     };
-    let outcome = plain(loaded.board, list, events, answers);
-    let answer = outcome.verdict;
-    code(answer)
+    code(plain(loaded.board, list, events, answers).verdict)
 }
 
 #[unsafe(no_mangle)]

@@ -1,5 +1,5 @@
 -- The records that frames give. Document 02, E1: "A frame with start 01 and op 01 or 10, to any address, gives a record: status 0 with the data seen, or 1 or 2 by the decoder's rule. Other frames (..) give nothing."
-use Rattle.std.specs.Prelude.{ℕ, ◌%◌, ◌^◌, Bool, ◌&&◌, ◌||◌, cond, List, [], ◌∷◌, map, eqb}
+use Rattle.std.specs.Prelude.{ℕ, ◌%◌, ◌^◌, Bool, ◌&&◌, ◌||◌, cond, List, [], ◌∷◌, map, eqb, Option, Some, None}
 use Rattle.verdict.specs.Bits.{bit}
 use Rattle.verdict.specs.Output.{join}
 use Rattle.frame.specs.declared.list.Transaction.{Transaction}
@@ -9,8 +9,6 @@ use Rattle.frame.specs.Frame.{frame_bits}
 use Rattle.frame.specs.List.{write, is_read}
 use Rattle.frame.specs.Answers.{answer_by}
 use Rattle.wire.specs.Follower.{our_start, header_seen}
-use Rattle.listener.specs.declared.Given.{Given}
-use Rattle.listener.specs.declared.Given.TheVariants.{Nothing, Record}
 
 -- what a frame of 32 bits says: op, address, register, and the data seen
 unfoldable pub transaction_in : ℕ → Transaction
@@ -41,6 +39,6 @@ abbrev pub records_of_all : List ℕ → List Answer
 records_of_all frames = join (map records_of frames)
 
 -- the records in what a clock gives
-abbrev pub records_given : Given → List Answer
-records_given Nothing = []
-records_given (Record answer) = answer ∷ []
+abbrev pub records_given : Option Answer → List Answer
+records_given None = []
+records_given (Some answer) = answer ∷ []

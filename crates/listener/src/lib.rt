@@ -2,13 +2,14 @@
 #![tactic(auto)]
 
 ghost use Rattle.std.specs.Prelude.{◌≡◌, ◌≤◌, length};
+ghost use Rattle.verdict.specs.Refusal.{said};
 ghost use Rattle.listener.specs.Frames.{frames_ending};
 ghost use Rattle.listener.specs.Records.{transaction_in, turnaround_in, records_of, records_of_all, records_given};
 ghost use Rattle.listener.specs.Listening.{Listened};
 ghost use Rattle.listener.specs.Passes.{Hunted, PassedOver, HasRoom, Heard};
 
 use frame::{Answer, Frame, Steps, Transaction, Turnaround};
-use verdict::{Verdict, check_bytes};
+use verdict::{Fault, Refusal, check_bytes};
 use wire::{Follower, Header};
 
 // What is saved: as many bytes as the longest run has clocks, each a level.
@@ -48,44 +49,33 @@ fn turnaround_in(frame: u32) -> Turnaround
     }
 }
 
-// What a clock gives the listener: the record of the frame that it ends.
-#[derive(Clone, Copy)]
-enum Given {
-    Nothing,
-    Record(Answer),
+// What a whole frame gives the listener: its record, where it is a write or a read.
+fn given_by_frame(frame: u32) -> Option<Answer>
+    ensures { records_given result ≡ records_of frame }
+{
+    if Header::of(frame / Frame::TAIL_VALUES).start != Header::OUR_START {
+        return None;
+    }
+    let seen = transaction_in(frame);
+    match seen.op {
+        Transaction::WRITE => Some(seen.answer(Answer::SENT, seen.data)),
+        Transaction::READ => Some(seen.read_answer(turnaround_in(frame), seen.data)),
+        _ => None,
+    }
 }
 
-impl Given {
-    // What a whole frame gives.
-    fn by_frame(frame: u32) -> Given
-        ensures { records_given result ≡ records_of frame }
-    {
-        if Header::of(frame / Frame::TAIL_VALUES).start != Header::OUR_START {
-            return Given::Nothing;
-        }
-        let seen = transaction_in(frame);
-        let op = seen.op;
-        match op {
-            Transaction::WRITE => Given::Record(seen.answer(Answer::SENT, seen.data)),
-            Transaction::READ => {
-                Given::Record(seen.read_answer(turnaround_in(frame), seen.data))
-            }
-            _ => Given::Nothing,
-        }
+// What a clock at a level gives, by the follower before it: the record of the frame that it ends. A frame that is cut off never comes
+// to its last bit.
+fn given_by_clock(follower: Follower, level: bool) -> Option<Answer>
+    ensures { records_given result ≡ records_of_all (frames_ending level follower) }
+{
+    let Follower::Inside(seen, bits) = follower else {
+        return None;
+    };
+    if seen < Follower::MOST_SEEN {
+        return None;
     }
-
-    // What a clock at a level gives, by the follower before it. A frame that is cut off never comes to its last bit.
-    fn by_clock(follower: Follower, level: bool) -> Given
-        ensures { records_given result ≡ records_of_all (frames_ending level follower) }
-    {
-        let Follower::Inside(seen, bits) = follower else {
-            return Given::Nothing;
-        };
-        if seen < Follower::MOST_SEEN {
-            return Given::Nothing;
-        }
-        Given::by_frame(Follower::one_more(bits, level))
-    }
+    given_by_frame(Follower::one_more(bits, level))
 }
 
 // The clock behind the 0 that starts the next frame, for a listener that hunts with 0 ones from a clock on; where none starts,
@@ -109,7 +99,7 @@ fn next_start(levels: &[u8], from: usize) -> usize
 // What a frame gave, and the clock behind it.
 #[derive(Clone, Copy)]
 struct Passed {
-    given: Given,
+    given: Option<Answer>,
     behind: usize,
 }
 
@@ -122,19 +112,15 @@ fn pass_over(levels: &[u8], from: usize) -> Passed
     let mut i = from;
     while i < levels.len() {
         let level = levels[i] == 1;
-        let given = Given::by_clock(follower, level);
+        let given = given_by_clock(follower, level);
         follower = follower.follow(Follower::MOST_ONES, level);
         i += 1;
         let Follower::Inside(_, _) = follower else {
-            return Passed {
-                given: given,
-                behind: i,
-            };
+            return Passed { given, behind: i };
         };
     }
-    let given = Given::Nothing;
     Passed {
-        given: given,
+        given: None,
         behind: i,
     }
 }
@@ -150,8 +136,7 @@ fn hear(levels: &[u8], answers: &mut [u8], writing: bool) -> usize
     while i < levels.len() {
         let passed = pass_over(levels, next_start(levels, i));
         i = passed.behind;
-        let given = passed.given;
-        let Given::Record(answer) = given else {
+        let Some(answer) = passed.given else {
             continue;
         };
         if writing {
@@ -166,23 +151,20 @@ fn hear(levels: &[u8], answers: &mut [u8], writing: bool) -> usize
 
 // Writes the records of the frames in a capture to the start of `answers`. Nothing is written before it is known that all
 // records fit: by the clocks that each takes, or else by a pass that counts them.
-pub fn listen(levels: &[u8], answers: &mut [u8]) -> Verdict
-    ensures { Listened levels.now answers.old result answers.new }
+pub fn listen(levels: &[u8], answers: &mut [u8]) -> Result<usize, Refusal>
+    ensures { Listened levels.now answers.old (said result) answers.new }
 {
-    let checked = check_bytes(
+    check_bytes(
         levels,
         Capture::MOST,
         Capture::LARGEST,
-        Verdict::WRONG_LEVEL,
-    );
-    let Verdict::Done(_) = checked else {
-        return checked;
-    };
+        Fault::WrongLevel,
+    )?;
     let room = answers.len() / Answer::BYTES;
     if room < levels.len() / Capture::CLOCKS_EACH {
         if room < hear(levels, answers, false) {
-            return Verdict::Refused(Verdict::NO_ROOM, 0);
+            return Err(Fault::NoRoom.at(0));
         }
     }
-    Verdict::Done(hear(levels, answers, true) * Answer::BYTES)
+    Ok(hear(levels, answers, true) * Answer::BYTES)
 }

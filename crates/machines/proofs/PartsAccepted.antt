@@ -24,7 +24,7 @@ use Rattle.board.specs.Record.{has_address}
 use Rattle.board.specs.Check.{places, checked}
 use Rattle.board.specs.Typed.{TypedBoard}
 use Rattle.board.specs.Events.{event_record, most_events, event_clock, event_address, event_code, on_board, event_wrong, clock_before, clock_wrong, event_fault, events_verdict}
-use Rattle.between.specs.declared.Outcome.{Outcome}
+use Rattle.board.specs.Outcome.{Told}
 use Rattle.between.specs.Outcome.{with_phys}
 use Rattle.between.specs.Parts.{event_bytes, picked, events_up_to, events_past}
 use Rattle.wire_machine.specs.Run.{steps_verdict, running, board_after_run, Ran}

@@ -14,7 +14,7 @@ use Rattle.wire.proofs.Runs.{HappensAlike, runs-alike, driven-alike}
 use Rattle.phy.specs.declared.Phy.{Phy}
 use Rattle.phy.specs.Clock.{drives, clock}
 use Rattle.board.specs.declared.Board.{Board}
-use Rattle.between.specs.declared.Outcome.{Outcome}
+use Rattle.board.specs.Outcome.{Told}
 use Rattle.between.specs.Outcome.{phys_of, with_phys, handed_back}
 use Rattle.between.specs.Events.{happens, at_start}
 use Rattle.between.specs.Parts.{events_up_to, events_past}

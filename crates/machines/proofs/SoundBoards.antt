@@ -24,7 +24,7 @@ use Rattle.board.specs.Check.{places, place_at, record_passes, place_sound, chec
 use Rattle.board.specs.Typed.{TypedBoard}
 use Rattle.board.specs.Events.{event_code}
 use Rattle.board.proofs.Soundness.{Sound, Passes, check_sound, sound-check, passes-no-fault, used-place, unused-place}
-use Rattle.between.specs.declared.Outcome.{Outcome}
+use Rattle.board.specs.Outcome.{Told}
 use Rattle.between.specs.Outcome.{phys_of, with_phys, handed_back, HandsBack}
 use Rattle.between.specs.Events.{is_for, happens}
 use Rattle.wire_machine.specs.Run.{phys_after_run, board_after_run, Ran}

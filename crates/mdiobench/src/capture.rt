@@ -4,20 +4,19 @@
 use crate::{input, report};
 use listener::listen;
 use std::io;
-use verdict::Verdict;
+use verdict::zeroed;
 
 // There is room for every record, so that only the capture itself can be refused (`only-capture`).
 fn read_back(rt: &impl Print, levels: &[u8]) -> io::Result<()> {
-    let mut answers = report::room_for_answers();
-    let verdict = listen(levels, &mut answers);
-    let Verdict::Done(size) = verdict else {
-        return report::refusal(rt, verdict, b"capture");
-    };
-    report::answers(rt, &answers[..size])
+    let mut answers = zeroed::<{ report::ANSWERS }>();
+    match listen(levels, &mut answers) {
+        Ok(size) => report::answers(rt, &answers[..size]),
+        Err(refusal) => report::refusal(rt, refusal, "capture"),
+    }
 }
 
 pub(crate) fn run(rt: &(impl Input + Print)) -> io::Result<()> {
-    let mut levels = input::room_for_capture();
+    let mut levels = zeroed::<{ input::CAPTURE }>();
     let size = input::read(&mut rt.reader(), &mut levels, 1);
     read_back(rt, &levels[..size])
 }

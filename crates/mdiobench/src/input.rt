@@ -9,48 +9,19 @@ use listener::Capture;
 use std::fs;
 use std::io::Read;
 use std::rt::Files;
+use verdict::zeroed;
 
 // The buffers: 33 board records, 65 transactions, 257 events, 4,161 levels.
-const BOARD: usize = (Board::PLACES + 1) * Board::RECORD;
+pub(crate) const BOARD: usize = (Board::PLACES + 1) * Board::RECORD;
 
-const LIST: usize = (Transaction::MOST + 1) * Transaction::BYTES;
+pub(crate) const LIST: usize = (Transaction::MOST + 1) * Transaction::BYTES;
 
-const EVENTS: usize = (Board::MOST_EVENTS + 1) * Board::EVENT_RECORD;
+pub(crate) const EVENTS: usize = (Board::MOST_EVENTS + 1) * Board::EVENT_RECORD;
 
-const CAPTURE: usize = Capture::MOST + 1;
-
-pub(crate) fn room_for_board() -> [u8; BOARD]
-    ensures { 4422 ≡ length result }
-{
-    [0; BOARD]
-}
-
-pub(crate) fn room_for_list() -> [u8; LIST]
-    ensures { 390 ≡ length result }
-{
-    [0; LIST]
-}
-
-pub(crate) fn room_for_events() -> [u8; EVENTS]
-    ensures { 1028 ≡ length result }
-{
-    [0; EVENTS]
-}
-
-pub(crate) fn room_for_capture() -> [u8; CAPTURE]
-    ensures { 4161 ≡ length result }
-{
-    [0; CAPTURE]
-}
+pub(crate) const CAPTURE: usize = Capture::MOST + 1;
 
 // What follows a buffer's bytes is read in chunks and let go.
 const CHUNK: usize = 65536;
-
-fn room_for_chunk() -> [u8; CHUNK]
-    ensures { 65536 ≡ length result }
-{
-    [0; CHUNK]
-}
 
 // Reads until the buffer is full, the input ends or a read fails, and answers how many bytes it put at the start of the buffer.
 fn read_full<R: Read>(reader: &mut R, buffer: &mut [u8]) -> usize
@@ -83,7 +54,7 @@ fn rest_of<R: Read>(reader: &mut R, size: usize) -> usize
     requires { (0 < size) × (size ≤ 134) }
     ensures { result < size }
 {
-    let mut space = room_for_chunk();
+    let mut space = zeroed::<CHUNK>();
     let chunk: &mut [u8] = &mut space;
     let mut rest: usize = 0;
     let mut left: u64 = 18446744073709551615;

@@ -15,7 +15,7 @@ use frame::{Transaction, check_list};
 use std::env::FillError;
 use std::io;
 use std::rt::{Env, Files};
-use verdict::Verdict;
+use verdict::zeroed;
 
 // What is asked of a tray.
 #[derive(Clone, Copy)]
@@ -28,13 +28,11 @@ enum Wanted {
 fn answer(rt: &impl Print, board: Board, list: &[u8], events: &[u8]) -> io::Result<()>
     requires { Passed board list.now }
 {
-    let mut answers = report::room_for_answers();
-    let outcome = exchange(board, list, events, &mut answers);
-    let verdict = outcome.verdict;
-    let Verdict::Done(size) = verdict else {
-        return report::refusal(rt, verdict, b"events");
-    };
-    report::answers(rt, &answers[..size])
+    let mut answers = zeroed::<{ report::ANSWERS }>();
+    match exchange(board, list, events, &mut answers).verdict {
+        Ok(size) => report::answers(rt, &answers[..size]),
+        Err(refusal) => report::refusal(rt, refusal, "events"),
+    }
 }
 
 // The files are checked in the order board, list, events.
@@ -46,14 +44,12 @@ fn bench(
     wanted: Wanted,
 ) -> io::Result<()> {
     let loaded = load(board_file);
-    let verdict = loaded.verdict;
-    let Verdict::Done(_) = verdict else {
-        return report::refusal(rt, verdict, b"board");
-    };
-    let listed = check_list(list);
-    let Verdict::Done(_) = listed else {
-        return report::refusal(rt, listed, b"list");
-    };
+    if let Err(refusal) = loaded.verdict {
+        return report::refusal(rt, refusal, "board");
+    }
+    if let Err(refusal) = check_list(list) {
+        return report::refusal(rt, refusal, "list");
+    }
     match wanted {
         Wanted::Answers => answer(rt, loaded.board, list, events),
         Wanted::Waveform => wave::show(rt, loaded.board, list, events),
@@ -62,11 +58,11 @@ fn bench(
 
 // Document 01: "The program takes the list on standard input, and `board.rec` and `events.rec` from its directory".
 fn tray(rt: &(impl Files + Input + Print), wanted: Wanted) -> io::Result<()> {
-    let mut board_file = input::room_for_board();
+    let mut board_file = zeroed::<{ input::BOARD }>();
     let board_bytes = input::read_file(rt, "board.rec", &mut board_file, Board::RECORD);
-    let mut list = input::room_for_list();
+    let mut list = zeroed::<{ input::LIST }>();
     let list_bytes = input::read(&mut rt.reader(), &mut list, Transaction::BYTES);
-    let mut events = input::room_for_events();
+    let mut events = zeroed::<{ input::EVENTS }>();
     let event_bytes = input::read_file(rt, "events.rec", &mut events, Board::EVENT_RECORD);
     bench(
         rt,

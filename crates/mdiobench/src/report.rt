@@ -8,16 +8,10 @@ ghost use Rattle.mdiobench.specs.Line.{digit_of, letter_of, answer_at, after_ord
 use frame::{Answer, Transaction};
 use listener::Capture;
 use std::io;
-use verdict::{Verdict, byte_at, word_at};
+use verdict::{Refusal, byte_at, word_at};
 
 // Room for as many answers as a capture can give, one more than the longest list has.
-const ANSWERS: usize = Capture::MOST_RECORDS * Answer::BYTES;
-
-pub(crate) fn room_for_answers() -> [u8; ANSWERS]
-    ensures { 390 ≡ length result }
-{
-    [0; ANSWERS]
-}
+pub(crate) const ANSWERS: usize = Capture::MOST_RECORDS * Answer::BYTES;
 
 fn digit(value: u16) -> u8
     requires { value < 16 }
@@ -81,23 +75,15 @@ fn after_ordinal(answer: Answer) -> [u8; 16]
 
 // The lines of these answers.
 pub(crate) fn answers(rt: &impl Print, records: &[u8]) -> io::Result<()> {
-    let count = records.len() / Answer::BYTES;
-    let mut k = 0;
-    while k < count {
+    for k in 0..records.len() / Answer::BYTES {
         let line = after_ordinal(answer_at(records, k));
         rt.print(k + 1)?;
         rt.write_all(&line)?;
-        k += 1;
     }
     Ok(())
 }
 
-// `refused N FILE INDEX`; nothing where nothing is refused.
-pub(crate) fn refusal(rt: &impl Print, verdict: Verdict, file: &[u8]) -> io::Result<()> {
-    let Verdict::Refused(number, index) = verdict else {
-        return Ok(());
-    };
-    print!(rt; "refused {number} ")?;
-    rt.write_all(file)?;
-    println!(rt; " {index}")
+// `refused N FILE INDEX`.
+pub(crate) fn refusal(rt: &impl Print, refusal: Refusal, file: &str) -> io::Result<()> {
+    println!(rt; "refused {} {file} {}", u8::from(refusal.fault), refusal.index)
 }

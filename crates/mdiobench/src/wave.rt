@@ -1,9 +1,6 @@
 // The program for the students' viewers (document 02, E3: "Write a log as such text"). It sends the list over the wire as ever,
 // and where it would print the answers it prints the waveform of the run.
-ghost use Rattle.std.specs.Prelude.{◌≡◌, ◌*◌, length};
-ghost use Rattle.frame.specs.Frame.{log_record};
-ghost use Rattle.frame.specs.Steps.{most_steps};
-ghost use Rattle.waveform.specs.Waveform.{longest};
+ghost use Rattle.verdict.specs.Refusal.{said};
 ghost use Rattle.mdiobench.specs.Tray.{Passed};
 ghost use Rattle.mdiobench.specs.Drawing.{Drawn};
 
@@ -12,36 +9,18 @@ use agreement::send;
 use board::Board;
 use frame::{Frame, Steps};
 use std::io;
-use verdict::Verdict;
+use verdict::{Refusal, zeroed};
 use waveform::{Waveform, write_vcd};
 
-// Room for the log of the longest list, and for the longest text.
+// Room for the log of the longest list.
 const LOG: usize = Steps::MOST * Frame::LOG_RECORD;
 
-fn room_for_log() -> [u8; LOG]
-    ensures { most_steps * log_record ≡ length result }
-{
-    [0; LOG]
-}
-
-const TEXT: usize = Waveform::LONGEST;
-
-fn room_for_text() -> [u8; TEXT]
-    ensures { longest ≡ length result }
-{
-    [0; TEXT]
-}
-
 // Writes the waveform of a list's run to the start of `text`.
-fn draw(board: Board, list: &[u8], events: &[u8], text: &mut [u8]) -> Verdict
-    ensures { Drawn board list.now events.now text.old result text.new }
+fn draw(board: Board, list: &[u8], events: &[u8], text: &mut [u8]) -> Result<usize, Refusal>
+    ensures { Drawn board list.now events.now text.old (said result) text.new }
 {
-    let mut log = room_for_log();
-    let sent = send(board, list, events, &mut log);
-    let heard = sent.verdict;
-    let Verdict::Done(size) = heard else {
-        return heard;
-    };
+    let mut log = zeroed::<LOG>();
+    let size = send(board, list, events, &mut log).verdict?;
     write_vcd(&log[..size], text)
 }
 
@@ -49,10 +28,9 @@ fn draw(board: Board, list: &[u8], events: &[u8], text: &mut [u8]) -> Verdict
 pub(crate) fn show(rt: &impl Print, board: Board, list: &[u8], events: &[u8]) -> io::Result<()>
     requires { Passed board list.now }
 {
-    let mut text = room_for_text();
-    let drawn = draw(board, list, events, &mut text);
-    let Verdict::Done(size) = drawn else {
-        return report::refusal(rt, drawn, b"events");
-    };
-    rt.write_all(&text[..size])
+    let mut text = zeroed::<{ Waveform::LONGEST }>();
+    match draw(board, list, events, &mut text) {
+        Ok(size) => rt.write_all(&text[..size]),
+        Err(refusal) => report::refusal(rt, refusal, "events"),
+    }
 }

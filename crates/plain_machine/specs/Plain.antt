@@ -13,7 +13,7 @@ use Rattle.phy.specs.Clock.{phy_core}
 use Rattle.board.specs.declared.Board.{Board}
 use Rattle.board.specs.Check.{checked}
 use Rattle.board.specs.Events.{events_verdict}
-use Rattle.between.specs.declared.Outcome.{Outcome}
+use Rattle.board.specs.Outcome.{Told}
 use Rattle.between.specs.Events.{happens, at_start}
 use Rattle.between.specs.Outcome.{with_phys, HandsBack}
 
@@ -43,6 +43,6 @@ abbrev pub board_after_plain : Board → List ℕ → List ℕ → Board
 board_after_plain board list events = with_phys board (phys_after_plain board list events)
 
 -- what `plain` promises
-abbrev pub Planned : Board → List ℕ → List ℕ → List ℕ → Outcome → List ℕ → Type 0
+abbrev pub Planned : Board → List ℕ → List ℕ → List ℕ → Told → List ℕ → Type 0
 Planned board list events out r out' =
     HandsBack (planning board list events out) (join (map answer_bytes (answers_of_plain board list events))) (board_after_plain board list events) board out r out'

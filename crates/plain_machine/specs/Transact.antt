@@ -2,8 +2,7 @@
 use Rattle.std.specs.Prelude.{ℕ, ◌≡◌, cond, List, map}
 use Rattle.verdict.specs.Output.{join, written}
 use Rattle.frame.specs.declared.list.Transaction.{Transaction}
-use Rattle.frame.specs.declared.list.Parse.{Parse}
-use Rattle.frame.specs.declared.list.Parse.TheVariants.{Good, Bad}
+use Rattle.verdict.specs.Refusal.{Judged, Good, Bad}
 use Rattle.frame.specs.declared.answer.Answer.{Answer}
 use Rattle.frame.specs.Frame.{preamble}
 use Rattle.frame.specs.List.{is_read}
@@ -19,7 +18,7 @@ unfoldable pub clocks_before : Transaction → ℕ
 clocks_before t = cond (is_read t) (before_reads preamble) (before_writes preamble)
 
 -- of a record of the list; past the list's end there are none
-abbrev pub lead_of : Parse → ℕ
+abbrev pub lead_of : Judged Transaction → ℕ
 lead_of (Good t) = clocks_before t
 lead_of (Bad c) = 0
 

@@ -3,33 +3,37 @@
 
 mod transact;
 
-ghost use Rattle.plain_machine.specs.Plain.{Planned};
+ghost use Rattle.std.specs.Prelude.{◌≡◌, ℕ, List, length};
+ghost use Rattle.verdict.specs.Refusal.{said};
+ghost use Rattle.board.specs.Outcome.{told};
+ghost use Rattle.plain_machine.specs.Plain.{planning, Planned};
 
-use between::Outcome;
-use board::{Board, check, check_events};
+use board::{Board, Outcome, check, check_events};
 use frame::{Answer, Frame, check_list};
-use verdict::Verdict;
+use verdict::{Fault, Refusal};
+
+// The checks of a list without a wire, in order, where the output has this many bytes. Ok says how many of them the answers take.
+fn check_plan(board: Board, list: &[u8], events: &[u8], room: usize) -> Result<usize, Refusal>
+    ensures { (answers : List ℕ) → length answers ≡ room → said result ≡ planning board list.now events.now answers }
+{
+    check(board)?;
+    let count = check_list(list)?;
+    check_events(board, events, count * Frame::CLOCKS)?;
+    let size = count * Answer::BYTES;
+    if room < size {
+        return Err(Fault::NoRoom.at(0));
+    }
+    Ok(size)
+}
 
 // Writes the answers to a list to the start of `answers`, and hands the board back as the list and the events leave it.
 pub fn plain(board: Board, list: &[u8], events: &[u8], answers: &mut [u8]) -> Outcome
-    ensures { Planned board list.now events.now answers.old result answers.new }
+    ensures { Planned board list.now events.now answers.old (told result) answers.new }
 {
-    let sound = check(board);
-    let Verdict::Done(_) = sound else {
-        return Outcome::of(sound, board);
+    let verdict = check_plan(board, list, events, answers.len());
+    let Ok(_) = verdict else {
+        return Outcome::of(verdict, board);
     };
-    let listed = check_list(list);
-    let Verdict::Done(count) = listed else {
-        return Outcome::of(listed, board);
-    };
-    let happening = check_events(board, events, count * Frame::CLOCKS);
-    let Verdict::Done(_) = happening else {
-        return Outcome::of(happening, board);
-    };
-    let size = count * Answer::BYTES;
-    if answers.len() < size {
-        return Outcome::of(Verdict::Refused(Verdict::NO_ROOM, 0), board);
-    }
     let after = transact::transact_all(board, list, events, answers);
-    Outcome::of(Verdict::Done(size), after)
+    Outcome::of(verdict, after)
 }

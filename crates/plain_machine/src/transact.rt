@@ -1,7 +1,7 @@
 // The transactions of a list one after the other (document 01: "transaction k reads in clock 65(k-1)+46 or stores in
 // 65(k-1)+64"), with the events between them.
 ghost use Rattle.std.specs.Prelude.{◌≡◌, ◌*◌, [], ◌∷◌};
-ghost use Rattle.verdict.specs.Refusal.{Done};
+ghost use Rattle.verdict.specs.Refusal.{Done, judged};
 ghost use Rattle.verdict.specs.File.{records};
 ghost use Rattle.frame.specs.List.{list_record};
 ghost use Rattle.frame.specs.Answers.{answer_record};
@@ -11,8 +11,9 @@ ghost use Rattle.plain_machine.specs.Transact.{lead_of, after_act, answer_of, Tr
 
 use between::{is_due, owns_of, place_of, taker_of};
 use board::{Board, address_of, code_of};
-use frame::{Answer, Frame, Parse, Transaction, parsed_at};
+use frame::{Answer, Frame, Transaction, parsed_at};
 use phy::Phy;
+use verdict::Fault;
 use wire::Header;
 
 fn header_for(transaction: Transaction) -> Header
@@ -27,10 +28,10 @@ fn header_for(transaction: Transaction) -> Header
 }
 
 // The clocks of a transaction before the one in which it acts; past the list's end there are none.
-fn lead_of(parse: Parse) -> usize
-    ensures { result ≡ lead_of parse }
+fn lead_of(record: Result<Transaction, Fault>) -> usize
+    ensures { result ≡ lead_of (judged record) }
 {
-    let Parse::Good(transaction) = parse else {
+    let Ok(transaction) = record else {
         return 0;
     };
     if transaction.op == Transaction::READ {
@@ -88,26 +89,24 @@ pub(crate) fn transact_all(
     let mut next: usize = 0;
     let mut k: usize = 0;
     loop {
-        let parse = parsed_at(list, k);
-        let clock = k * Frame::CLOCKS + lead_of(parse);
+        let record = parsed_at(list, k);
+        let clock = k * Frame::CLOCKS + lead_of(record);
         if is_due(events, next, clock) {
-            let i = place_of(owns, count, address_of(events, next));
-            let phy = board.phys[i].event(code_of(events, next));
-            board.phys[i] = phy;
+            if let Some(i) = place_of(&owns[..count], address_of(events, next)) {
+                board.phys[i] = board.phys[i].event(code_of(events, next));
+            }
             next += 1;
             continue;
         }
-        let Parse::Good(transaction) = parse else {
+        let Ok(transaction) = record else {
             return board;
         };
         let at = k * Answer::BYTES;
         let end = at + Answer::BYTES;
         k += 1;
-        let i = taker_of(owns, count, transaction.address);
-        if i < count {
+        if let Some(i) = taker_of(&owns[..count], transaction.address) {
             answer_of(board.phys[i], transaction).put(&mut answers[at..end]);
-            let phy = after_act(board.phys[i], transaction);
-            board.phys[i] = phy;
+            board.phys[i] = after_act(board.phys[i], transaction);
         } else {
             unanswered(transaction).put(&mut answers[at..end]);
         }

@@ -1,7 +1,7 @@
 // What every call shares: its answer, and the bytes of a file (document 01, "Records" and "Refusal numbers").
 #![tactic(auto)]
 
-ghost use Rattle.std.specs.Prelude.{◌≡◌};
+ghost use Rattle.std.specs.Prelude.{◌≡◌, length};
 ghost use Rattle.verdict.specs.File.{byte_at, word_at, bytes_verdict};
 ghost use Rattle.verdict.specs.Refusal.{said, number_of, refusal_at};
 
@@ -91,4 +91,11 @@ pub fn check_bytes(file: &[u8], most: usize, largest: u8, fault: Fault) -> Resul
         }
     }
     Ok(count)
+}
+
+// An output's room: bytes that are written before they are read. Its caller knows how many they are, and not what they say.
+pub fn zeroed<const N: usize>() -> [u8; N]
+    ensures { N ≡ length result }
+{
+    [0; N]
 }

@@ -1,12 +1,13 @@
 // From our own text back to the flags of its clocks.
 ghost use Rattle.std.specs.Prelude.{◌≡◌, ◌≤◌, ◌<◌, length};
+ghost use Rattle.verdict.specs.Refusal.{said};
 ghost use Rattle.waveform.specs.Waveform.{ReadBack};
 ghost use Rattle.waveform.specs.Passes.{seen_in, shown_in, next_in, ending_by, HasPlaces, GoneOver};
 
 use crate::Waveform;
 use crate::lines::{TimeLine, goes_on, header};
 use crate::signals::{Signal, Signals};
-use verdict::Verdict;
+use verdict::{Fault, Refusal};
 
 // The value of a signal in a clock, and the place behind its line.
 #[derive(Clone, Copy)]
@@ -113,28 +114,26 @@ fn what_follows(text: &[u8], at: usize, clock: usize, old: Signals) -> Next
 }
 
 // The answer where no other clock follows these: done at the closing time.
-fn ending(next: Next, clocks: usize) -> Verdict
-    ensures { result ≡ ending_by next clocks }
+fn ending(next: Next, clocks: usize) -> Result<usize, Refusal>
+    ensures { said result ≡ ending_by next clocks }
 {
     match next {
-        Next::Closing => Verdict::Done(clocks),
-        Next::Clock(_) => Verdict::Refused(Verdict::WRONG_TEXT, 0),
-        Next::Foreign => Verdict::Refused(Verdict::WRONG_TEXT, 0),
+        Next::Closing => Ok(clocks),
+        Next::Clock(_) | Next::Foreign => Err(Fault::WrongText.at(0)),
     }
 }
 
 // Goes over the text once: counts its clocks and, where it is to write, writes their flags.
-fn go_over(text: &[u8], flags: &mut [u8], writing: bool) -> Verdict
+fn go_over(text: &[u8], flags: &mut [u8], writing: bool) -> Result<usize, Refusal>
     requires { HasPlaces writing text.now flags.old }
-    ensures { GoneOver writing text.now flags.old result flags.new }
+    ensures { GoneOver writing text.now flags.old (said result) flags.new }
 {
     if !goes_on(text, 0, &header()) {
-        return Verdict::Refused(Verdict::WRONG_TEXT, 0);
+        return Err(Fault::WrongText.at(0));
     }
     let mut at = Waveform::HEADER;
     let mut old = Signals::of(0);
-    let mut i = 0;
-    while i <= Waveform::MOST {
+    for i in 0..=Waveform::MOST {
         let next = what_follows(text, at, i + 1, old);
         let Next::Clock(shown) = next else {
             return ending(next, i);
@@ -144,22 +143,18 @@ fn go_over(text: &[u8], flags: &mut [u8], writing: bool) -> Verdict
         }
         old = shown.signals;
         at = shown.behind;
-        i += 1;
     }
-    Verdict::Refused(Verdict::WRONG_TEXT, 0)
+    Err(Fault::WrongText.at(0))
 }
 
 // Writes a byte for each clock of our own text to the start of `flags`. Nothing is written before the whole text is known to
 // be ours.
-pub fn read_vcd(text: &[u8], flags: &mut [u8]) -> Verdict
-    ensures { ReadBack text.now flags.old result flags.new }
+pub fn read_vcd(text: &[u8], flags: &mut [u8]) -> Result<usize, Refusal>
+    ensures { ReadBack text.now flags.old (said result) flags.new }
 {
-    let counted = go_over(text, flags, false);
-    let Verdict::Done(count) = counted else {
-        return counted;
-    };
+    let count = go_over(text, flags, false)?;
     if flags.len() < count {
-        return Verdict::Refused(Verdict::NO_ROOM, 0);
+        return Err(Fault::NoRoom.at(0));
     }
     go_over(text, flags, true)
 }

@@ -1,5 +1,6 @@
 // From a log to its text.
 ghost use Rattle.std.specs.Prelude.{◌<◌};
+ghost use Rattle.verdict.specs.Refusal.{said};
 ghost use Rattle.waveform.specs.Text.{time_line};
 ghost use Rattle.waveform.specs.Signals.{value_line};
 ghost use Rattle.waveform.specs.Waveform.{clock_lines, waveform, Written};
@@ -9,7 +10,7 @@ use crate::Waveform;
 use crate::lines::{TimeLine, header, put};
 use crate::signals::{Signal, Signals};
 use frame::Frame;
-use verdict::Verdict;
+use verdict::{Fault, Refusal};
 
 // The line of a time, of four digits at most.
 fn put_time(text: &mut [u8], at: usize, clock: usize, writing: bool) -> usize
@@ -82,32 +83,30 @@ fn lay(log: &[u8], text: &mut [u8], writing: bool) -> usize
     let count = log.len() / Frame::LOG_RECORD;
     let mut at = put(text, 0, &header(), writing);
     let mut old = Signals::of(0);
-    let mut i = 0;
-    while i < count {
+    for i in 0..count {
         let new = Signals::of(log[i * Frame::LOG_RECORD]);
         at = put_clock(text, at, i + 1, old, new, writing);
         old = new;
-        i += 1;
     }
     put_time(text, at, count + 1, writing)
 }
 
 // Writes the text of a log to the start of `text`. Nothing is written before it is known that all of it fits: by the longest
 // that there is, or else by a pass that measures it.
-pub fn write_vcd(log: &[u8], text: &mut [u8]) -> Verdict
-    ensures { Written log.now text.old result text.new }
+pub fn write_vcd(log: &[u8], text: &mut [u8]) -> Result<usize, Refusal>
+    ensures { Written log.now text.old (said result) text.new }
 {
     if log.len() % Frame::LOG_RECORD != 0 {
-        return Verdict::Refused(Verdict::WRONG_LENGTH, 0);
+        return Err(Fault::WrongLength.at(0));
     }
     if Waveform::MOST < log.len() / Frame::LOG_RECORD {
-        return Verdict::Refused(Verdict::TOO_MANY, 0);
+        return Err(Fault::TooMany.at(0));
     }
     let room = text.len();
     if room < Waveform::LONGEST {
         if room < lay(log, text, false) {
-            return Verdict::Refused(Verdict::NO_ROOM, 0);
+            return Err(Fault::NoRoom.at(0));
         }
     }
-    Verdict::Done(lay(log, text, true))
+    Ok(lay(log, text, true))
 }

@@ -24,7 +24,7 @@ use Rattle.phy.specs.Typed.{Typed}
 use Rattle.phy.proofs.Words.{set_same, set_other}
 use Rattle.phy.proofs.Keeping.{keeps_typed, clock-typed}
 use Rattle.board.specs.declared.Board.{Board}
-use Rattle.between.specs.declared.Outcome.{Outcome}
+use Rattle.board.specs.Outcome.{Told}
 use Rattle.between.specs.Outcome.{phys_of}
 use Rattle.wire_machine.specs.Log.{is_driving, flags_of, mask_from, clock_record}
 use Rattle.board.specs.Record.{addresses_of}

@@ -14,7 +14,7 @@ use Rattle.board.specs.declared.Board.{Board}
 use Rattle.board.specs.Record.{addresses_of}
 use Rattle.board.specs.Check.{checked}
 use Rattle.board.specs.Events.{events_verdict}
-use Rattle.between.specs.declared.Outcome.{Outcome}
+use Rattle.board.specs.Outcome.{Told}
 use Rattle.between.specs.Outcome.{phys_of, with_phys, HandsBack}
 use Rattle.between.specs.Events.{happens, at_start}
 use Rattle.wire_machine.specs.Log.{clock_record}
@@ -52,6 +52,6 @@ log_of_run board steps events =
     join (map (clock_record (addresses_of (phys_of board))) (driven (party_with events) (station_drives steps) 0 (at_start board events)))
 
 -- what `run` promises
-abbrev pub Ran : Board → List ℕ → List ℕ → List ℕ → Outcome → List ℕ → Type 0
+abbrev pub Ran : Board → List ℕ → List ℕ → List ℕ → Told → List ℕ → Type 0
 Ran board steps events out r out' =
     HandsBack (running board steps events out) (log_of_run board steps events) (board_after_run board steps events) board out r out'

@@ -1,6 +1,7 @@
 // The wire machine: every clock, all parties drive, then all sample the level (document 01, "Clock steps").
-ghost use Rattle.std.specs.Prelude.{◌≡◌, ◌*◌, length};
-ghost use Rattle.verdict.specs.Refusal.{Done};
+ghost use Rattle.std.specs.Prelude.{◌≡◌, ◌*◌, ℕ, List, length};
+ghost use Rattle.board.specs.Outcome.{told};
+ghost use Rattle.verdict.specs.Refusal.{Done, said};
 ghost use Rattle.frame.specs.Frame.{log_record};
 ghost use Rattle.wire_machine.specs.Run.{steps_verdict, running, Ran};
 ghost use Rattle.wire_machine.specs.Clocks.{Clocked};
@@ -8,16 +9,16 @@ ghost use Rattle.wire_machine.specs.Clocks.{Clocked};
 use crate::common::Common;
 use crate::hear::{Heard, hear, station_drive};
 use crate::line::{Line, join_all, place_in};
-use between::{Outcome, is_due};
-use board::{Board, address_of, check, check_events, code_of};
+use between::is_due;
+use board::{Board, Outcome, address_of, check, check_events, code_of};
 use frame::{Frame, Steps};
-use verdict::{Verdict, check_bytes};
+use verdict::{Fault, Refusal, check_bytes};
 
 // The steps' checks: not too many, and each one of four.
-fn check_steps(steps: &[u8]) -> Verdict
-    ensures { result ≡ steps_verdict steps.now }
+fn check_steps(steps: &[u8]) -> Result<usize, Refusal>
+    ensures { said result ≡ steps_verdict steps.now }
 {
-    check_bytes(steps, Steps::MOST, Steps::LARGEST, Verdict::WRONG_STEP)
+    check_bytes(steps, Steps::MOST, Steps::LARGEST, Fault::WrongStep)
 }
 
 // All clocks of a run that is not refused. A turn is an event that is due, which acts on its PHY where that stands, or else a
@@ -84,26 +85,28 @@ fn clock_by_clock(mut board: Board, steps: &[u8], events: &[u8], log: &mut [u8])
     }
 }
 
+// The checks of a run, in order, where the log has this many bytes. Ok says how many of them the run writes.
+fn check_run(board: Board, steps: &[u8], events: &[u8], room: usize) -> Result<usize, Refusal>
+    ensures { (log : List ℕ) → length log ≡ room → said result ≡ running board steps.now events.now log }
+{
+    check(board)?;
+    let count = check_steps(steps)?;
+    check_events(board, events, count)?;
+    let size = count * Frame::LOG_RECORD;
+    if room < size {
+        return Err(Fault::NoRoom.at(0));
+    }
+    Ok(size)
+}
+
 // Runs the steps on a board, with the events between clocks, and writes a record of each clock to the log's start.
 pub fn run(board: Board, steps: &[u8], events: &[u8], log: &mut [u8]) -> Outcome
-    ensures { Ran board steps.now events.now log.old result log.new }
+    ensures { Ran board steps.now events.now log.old (told result) log.new }
 {
-    let sound = check(board);
-    let Verdict::Done(_) = sound else {
-        return Outcome::of(sound, board);
+    let verdict = check_run(board, steps, events, log.len());
+    let Ok(_) = verdict else {
+        return Outcome::of(verdict, board);
     };
-    let stepped = check_steps(steps);
-    let Verdict::Done(count) = stepped else {
-        return Outcome::of(stepped, board);
-    };
-    let happening = check_events(board, events, count);
-    let Verdict::Done(_) = happening else {
-        return Outcome::of(happening, board);
-    };
-    let size = count * Frame::LOG_RECORD;
-    if log.len() < size {
-        return Outcome::of(Verdict::Refused(Verdict::NO_ROOM, 0), board);
-    }
     let after = clock_by_clock(board, steps, events, log);
-    Outcome::of(Verdict::Done(size), after)
+    Outcome::of(verdict, after)
 }

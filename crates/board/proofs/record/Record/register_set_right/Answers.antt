@@ -1,7 +1,7 @@
 -- Each test is its clause of `register_set_right`.
 use Rattle.phy.specs.Record.{register_set_right}
 use Rattle.phy.proofs.Words.{has-bit}
-use Rattle.board.proofs.record.register_set_right.Goals as goal
+use Rattle.board.proofs.record.Record.register_set_right.Goals as goal
 
 pub returns : goal.returns
 unfolding register_set_right

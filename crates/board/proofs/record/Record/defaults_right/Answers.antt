@@ -1,6 +1,6 @@
 -- Each test is its clause of `defaults_right`.
 use Rattle.phy.specs.Record.{defaults_right}
-use Rattle.board.proofs.record.defaults_right.Goals as goal
+use Rattle.board.proofs.record.Record.defaults_right.Goals as goal
 
 pub returns : goal.returns
 unfolding defaults_right

@@ -1,6 +1,6 @@
 -- Each branch is the first finding of `fault_of` that its tests pick.
 use Rattle.board.specs.Record.{fault_of}
-use Rattle.board.proofs.record.fault.Goals as goal
+use Rattle.board.proofs.record.Record.check.Goals as goal
 
 pub returns-then-own-zero : goal.returns-then-own-zero
 unfolding fault_of

@@ -6,7 +6,7 @@ use lib.Dec.{eqb}
 use Rattle.phy.specs.Record.{every, word, unimplemented_zero}
 use Rattle.board.proofs.Turns.{every-turn}
 use borrow.Author.Rules.{rules}
-use Rattle.board.proofs.record.unimplemented_zero.Goals as goal
+use Rattle.board.proofs.record.Record.unimplemented_zero.Goals as goal
 
 pub loop-r-init : goal.loop-r-init
 unfolding every

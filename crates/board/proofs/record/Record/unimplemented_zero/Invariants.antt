@@ -5,7 +5,7 @@ use mathlib.Core.Path.{◌≡◌}
 use lib.Dec.{eqb}
 use Rattle.phy.specs.Abilities.{one}
 use Rattle.phy.specs.Record.{every, word}
-use Rattle.board.proofs.record.unimplemented_zero.Given as goal
+use Rattle.board.proofs.record.Record.unimplemented_zero.Given as goal
 
 abbrev pub invariant-loop-r : goal.invariant-loop-r
 invariant-loop-r l =

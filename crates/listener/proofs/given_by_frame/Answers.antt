@@ -5,7 +5,7 @@ use native.Mathlib.Omega.{arith}
 use borrow.Author.Tests.{eq-eqb, ne_eqb}
 use Rattle.frame.specs.Answers.{read_answer}
 use Rattle.listener.specs.Records.{records_of}
-use Rattle.listener.proofs.Given.by_frame.Goals as goal
+use Rattle.listener.proofs.given_by_frame.Goals as goal
 
 pub returns-then-of-ne-OUR_START : goal.returns-then-of-ne-OUR_START
 unfolding records_of

@@ -4,7 +4,7 @@ use mathlib.Core.List.{append-nil}
 use borrow.Author.Tests.{le-leb, lt-leb}
 use Rattle.verdict.specs.Output.{join}
 use Rattle.listener.specs.Records.{records_of}
-use Rattle.listener.proofs.Given.by_clock.Goals as goal
+use Rattle.listener.proofs.given_by_clock.Goals as goal
 
 pub returns-in_default : goal.returns-in_default
 unfolding join
