@@ -1,5 +1,5 @@
 -- Document 01, "Refusal numbers": "Nothing is written" and "Success writes the result from the output's start; later bytes stay."
-use Rattle.std.specs.Prelude.{ℕ, zero, suc, ◌≡◌, List, [], ◌∷◌, ◌++◌, length, drop, ltb}
+use Rattle.std.specs.Prelude.{ℕ, zero, suc, ◌≡◌, List, [], ◌∷◌, ◌++◌, length, drop, replicate, ltb}
 use Rattle.verdict.specs.Refusal.{Verdict}
 use Rattle.verdict.specs.Refusal.{Done, Refused}
 use Rattle.verdict.specs.Refusal.{no_room, ◌when◌, refuse}
@@ -31,3 +31,7 @@ room_for out n = refuse (no_room when ltb (length out) n) 0 (Done n)
 pub record Writes (answer : Verdict) (result out : List ℕ) (r : Verdict) (out' : List ℕ) : Type 0 where
   pub verdict : r ≡ answer
   pub output : out' ≡ output_after answer result out
+
+-- room for an output of n bytes
+unfoldable pub zeros : ℕ → List ℕ
+zeros n = replicate n 0

@@ -3,6 +3,7 @@
 
 ghost use Rattle.std.specs.Prelude.{◌≡◌, length};
 ghost use Rattle.verdict.specs.File.{byte_at, word_at, bytes_verdict};
+ghost use Rattle.verdict.specs.Output.{zeros};
 ghost use Rattle.verdict.specs.Refusal.{said, number_of, refusal_at};
 
 use std::fmt;
@@ -93,9 +94,12 @@ pub fn check_bytes(file: &[u8], most: usize, largest: u8, fault: Fault) -> Resul
     Ok(count)
 }
 
-// An output's room: bytes that are written before they are read. Its caller knows how many they are, and not what they say.
+// Room for an output: zeros. What stands in it is told by a word that nobody needs to look into, so that a buffer of some thousand
+// bytes is one word in a proof.
+#[tactic(auto, unfolding(crate::specs::Output::zeros))]
 pub fn zeroed<const N: usize>() -> [u8; N]
-    ensures { N ≡ length result }
+    ensures long { N ≡ length result }
+    ensures zeros { result ≡ zeros N }
 {
     [0; N]
 }
