@@ -16,6 +16,7 @@ use Rattle.wire.specs.Follower.{one_more, follow}
 use Rattle.listener.specs.Frames.{enough, at_first, frames_ending, frames_from}
 use Rattle.listener.specs.Records.{transaction_in, turnaround_in, starts_right, is_ours, records_of, records_of_all}
 use Rattle.listener.specs.Listening.{most_levels, levels_in, records_in}
+use Rattle.listener.specs.Parts.{frames_in}
 
 pub records-append : (a b : List ℕ) → records_of_all (a ++ b) ≡ records_of_all a ++ records_of_all b
 records-append a b = ap join (map-append records_of a b) ∙ join-append (map records_of a) (map records_of b)
@@ -70,3 +71,8 @@ clocks-gone capture =
 
 pub most-records : (capture : List ℕ) → length capture ≤ most_levels → length (records_in capture) ≤ 65
 most-records capture few = omega (arith, clocks-gone capture)
+
+-- so does each frame that is heard, whatever it says
+pub frames-gone : (capture : List ℕ) → 64 * length (frames_in capture) ≤ length capture
+unfolding frames_in
+frames-gone capture = omega (arith, frames-few at_first (levels_in capture), length-map capture (λ byte. eqb byte 1))

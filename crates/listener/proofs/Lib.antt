@@ -1,6 +1,7 @@
 pub mod Frames
 pub mod Clocks
-pub mod Passes
+pub mod Whole
+pub mod Heard
 pub mod Laws
 pub mod FrameWords
 pub mod Transactions

@@ -5,10 +5,8 @@ use mathlib.Core.Bool.{Bool, true, false, cond}
 use mathlib.Core.List.{List, [], ◌∷◌, ◌++◌, map-append, append_assoc}
 use native.Mathlib.Omega.{arith}
 use native.Mathlib.Nat.{mod-eq_of_lt, pow-suc}
-use native.Mathlib.Numerals.{add-one}
 use lib.ListN.{length, replicate, length-map, length-append}
 use lib.Dec.{eqb}
-use borrow.Author.Tests.{lt-leb}
 use Rattle.verdict.specs.Bits.{bit, bits, shift_in, value_of}
 use Rattle.verdict.specs.Lists.{All}
 use Rattle.verdict.specs.Output.{tabulate, join}
@@ -20,7 +18,7 @@ use Rattle.frame.specs.Frame.{preamble}
 use Rattle.frame.specs.List.{is_read}
 use Rattle.frame.specs.Answers.{sent, answered, silent, answer_to, read_answer}
 use Rattle.wire.specs.declared.Follower.TheVariants.{Hunting, Inside}
-use Rattle.wire.specs.Follower.{one_more, follow, header_of}
+use Rattle.wire.specs.Follower.{follow, header_of}
 use Rattle.wire.specs.Machines.{clocks_with}
 use Rattle.wire.proofs.Followers.{shown, shown-fits}
 use Rattle.agreement.specs.Levels.{ones, heard, heard_all, answer_levels, levels_of, levels_of_all}
@@ -29,6 +27,7 @@ use Rattle.agreement.proofs.Seen.{shown-row}
 use Rattle.agreement.proofs.Rows.{header_row, row_small, row-long, header_word, row-says}
 use Rattle.listener.specs.Frames.{at_first, frames_from}
 use Rattle.listener.specs.Records.{records_of, records_of_all}
+use Rattle.listener.proofs.Whole.{in_frame}
 use Rattle.listener.proofs.FrameWords.{answer_of, record_of}
 
 -- ones until there are enough
@@ -38,18 +37,6 @@ after-ones zero n rest few enough =
     let all : n ≡ 32 = omega arith in
     ap (λ k. frames_from (Hunting k) rest) all
 after-ones (suc m) n rest few enough = after-ones m (min (n + 1) 32) rest (omega arith) (omega arith)
-
--- inside a frame, to its last bit
-in_frame : (levels rest : List Bool) (seen bits : ℕ) → seen ≤ 31 → seen + length levels ≡ 32 →
-    frames_from (Inside seen bits) (levels ++ rest) ≡ shown bits levels ∷ frames_from (Hunting 0) rest
-unfolding frames_from follow
-in_frame [] rest seen bits before place = absurd (omega arith)
-in_frame (level ∷ []) rest seen bits before place =
-    let last : seen ≡ 31 = omega arith in
-    rw last
-in_frame (level ∷ next ∷ levels) rest seen bits before place =
-    rw (lt-leb 31 seen (omega arith), add-one seen)
-    (in_frame (next ∷ levels) rest (suc seen) (one_more bits level) (omega arith) (omega arith))
 
 -- a frame that starts 00 gives nothing, whatever its other 30 bits, and behind it the listener hunts as at first
 pub foreign-unrecorded : (levels rest : List Bool) → length levels ≡ 30 →

@@ -1,5 +1,5 @@
 pub mod Frames
 pub mod Records
 pub mod Listening
-pub mod Passes
+pub mod Parts
 pub mod ReadBack

@@ -1,12 +1,13 @@
 // The listener: what an analyser saved of the wire, one byte per clock, read back as answer records (document 02, E1).
 #![tactic(auto)]
 
-ghost use Rattle.std.specs.Prelude.{◌≡◌, ◌≤◌, length};
+ghost use Rattle.std.specs.Prelude.{◌≡◌, []};
+ghost use Rattle.std.specs.Option.{option_map_or};
+ghost use Rattle.std.specs.Iterator.{YieldsFirst, item_count};
 ghost use Rattle.verdict.specs.Refusal.{said};
-ghost use Rattle.listener.specs.Frames.{frames_ending};
-ghost use Rattle.listener.specs.Records.{transaction_in, turnaround_in, records_of, records_of_all, records_given};
+ghost use Rattle.listener.specs.Records.{transaction_in, turnaround_in, records_of, records_given};
 ghost use Rattle.listener.specs.Listening.{Listened};
-ghost use Rattle.listener.specs.Passes.{Hunted, PassedOver, HasRoom, Heard};
+ghost use Rattle.listener.specs.Parts.{frames_in, frames_started, frame_of};
 
 use frame::{Answer, Frame, Steps, Transaction, Turnaround};
 use verdict::{Fault, Refusal, check_bytes};
@@ -27,7 +28,7 @@ impl Capture {
     pub const MOST_RECORDS: usize = Capture::MOST / Capture::CLOCKS_EACH;
 }
 
-// What a frame of 32 bits says.
+// What a frame of 32 bits says. Not a `From`: the frame is a plain number here, and `Transaction` another crate's.
 fn transaction_in(frame: u32) -> Transaction
     ensures { result ≡ transaction_in frame }
 {
@@ -49,7 +50,7 @@ fn turnaround_in(frame: u32) -> Turnaround
     }
 }
 
-// What a whole frame gives the listener: its record, where it is a write or a read.
+// The record of a frame that was heard whole, where it is a write or a read of ours.
 fn given_by_frame(frame: u32) -> Option<Answer>
     ensures { records_given result ≡ records_of frame }
 {
@@ -64,89 +65,50 @@ fn given_by_frame(frame: u32) -> Option<Answer>
     }
 }
 
-// What a clock at a level gives, by the follower before it: the record of the frame that it ends. A frame that is cut off never comes
-// to its last bit.
-fn given_by_clock(follower: Follower, level: bool) -> Option<Answer>
-    ensures { records_given result ≡ records_of_all (frames_ending level follower) }
-{
-    let Follower::Inside(seen, bits) = follower else {
-        return None;
-    };
-    if seen < Follower::MOST_SEEN {
-        return None;
-    }
-    given_by_frame(Follower::one_more(bits, level))
-}
-
-// The clock behind the 0 that starts the next frame, for a listener that hunts with 0 ones from a clock on; where none starts,
-// the capture's end.
-fn next_start(levels: &[u8], from: usize) -> usize
-    requires { from ≤ length levels.now }
-    ensures { Hunted levels.now from result }
+// What is left of a capture behind the 0 that starts its next frame, for a listener that hunts with 0 ones.
+fn behind_start(levels: &[u8]) -> Option<&[u8]>
+    ensures { frames_in levels.now ≡ option_map_or (λ rest. frames_started rest.now) result [] }
 {
     let mut follower = Follower::Hunting(0);
-    let mut i = from;
-    while i < levels.len() {
-        follower = follower.follow(Follower::MOST_ONES, levels[i] == 1);
-        i += 1;
-        let Follower::Hunting(_) = follower else {
-            return i;
-        };
-    }
-    i
-}
-
-// What a frame gave, and the clock behind it.
-#[derive(Clone, Copy)]
-struct Passed {
-    given: Option<Answer>,
-    behind: usize,
-}
-
-// Passes over a frame of which the first 0 was heard before a clock; over the rest of the capture where it is cut off.
-fn pass_over(levels: &[u8], from: usize) -> Passed
-    requires { from ≤ length levels.now }
-    ensures { PassedOver levels.now from result }
-{
-    let mut follower = Follower::Inside(1, 0);
-    let mut i = from;
-    while i < levels.len() {
-        let level = levels[i] == 1;
-        let given = given_by_clock(follower, level);
-        follower = follower.follow(Follower::MOST_ONES, level);
-        i += 1;
-        let Follower::Inside(_, _) = follower else {
-            return Passed { given, behind: i };
-        };
-    }
-    Passed {
-        given: None,
-        behind: i,
-    }
-}
-
-// Goes over a capture once: counts the records that it gives and, where it is to write, writes them. Hunting and passing over
-// a frame are loops of their own, in each of which the follower's kind stays: so it is not asked for at every clock.
-fn hear(levels: &[u8], answers: &mut [u8], writing: bool) -> usize
-    requires { HasRoom levels.now writing answers.old }
-    ensures { Heard levels.now writing answers.old result answers.new }
-{
-    let mut found: usize = 0;
-    let mut i: usize = 0;
-    while i < levels.len() {
-        let passed = pass_over(levels, next_start(levels, i));
-        i = passed.behind;
-        let Some(answer) = passed.given else {
-            continue;
-        };
-        if writing {
-            let at = found * Answer::BYTES;
-            let end = at + Answer::BYTES;
-            answer.put(&mut answers[at..end]);
+    for (i, level) in levels.iter().enumerate() {
+        follower = follower.follow(Follower::MOST_ONES, *level == 1);
+        if let Follower::Inside(_, _) = follower {
+            return Some(&levels[i + 1..]);
         }
-        found += 1;
     }
-    found
+    None
+}
+
+// The number that the bits of a frame behind its first 0 say.
+fn frame_of(levels: &[u8]) -> u32
+    ensures { result ≡ frame_of levels.now }
+{
+    levels
+        .iter()
+        .fold(0, |bits, level| Follower::one_more(bits, *level == 1))
+}
+
+// A listener with what is left of its capture. It gives the frames that it hears whole, each as the number that its 32 bits say.
+#[derive(Drop)]
+struct Listener<'a> {
+    levels: &'a [u8],
+}
+
+impl<'a> Iterator for Listener<'a> {
+    type Item = u32;
+
+    ghost next_gives = { YieldsFirst (λ s. frames_in s.levels.now) };
+
+    ghost remaining = { item_count (λ s. frames_in s.levels.now) };
+
+    // Behind the 0 of its start a frame has 31 bits. One that is cut off at the capture's end has fewer, and gives nothing.
+    #[tactic(auto, using(crate::proofs::Whole::cut_off, crate::proofs::Whole::whole))]
+    fn next(&mut self) -> Option<u32> {
+        let started = behind_start(self.levels)?;
+        let (bits, behind) = started.split_at_checked(Frame::BITS - 1)?;
+        self.levels = behind;
+        Some(frame_of(bits))
+    }
 }
 
 // Writes the records of the frames in a capture to the start of `answers`. Nothing is written before it is known that all
@@ -154,17 +116,18 @@ fn hear(levels: &[u8], answers: &mut [u8], writing: bool) -> usize
 pub fn listen(levels: &[u8], answers: &mut [u8]) -> Result<usize, Refusal>
     ensures { Listened levels.now answers.old (said result) answers.new }
 {
-    check_bytes(
-        levels,
-        Capture::MOST,
-        Capture::LARGEST,
-        Fault::WrongLevel,
-    )?;
+    check_bytes(levels, Capture::MOST, Capture::LARGEST, Fault::WrongLevel)?;
     let room = answers.len() / Answer::BYTES;
-    if room < levels.len() / Capture::CLOCKS_EACH {
-        if room < hear(levels, answers, false) {
-            return Err(Fault::NoRoom.at(0));
-        }
+    if room < levels.len() / Capture::CLOCKS_EACH
+        && room < (Listener { levels }).filter_map(given_by_frame).count()
+    {
+        return Err(Fault::NoRoom.at(0));
     }
-    Ok(hear(levels, answers, true) * Answer::BYTES)
+    let mut done = 0;
+    for answer in (Listener { levels }).filter_map(given_by_frame) {
+        let end = done + Answer::BYTES;
+        answer.put(&mut answers[done..end]);
+        done = end;
+    }
+    Ok(done)
 }
