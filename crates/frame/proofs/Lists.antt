@@ -5,21 +5,19 @@ use mathlib.Core.List.{List, []}
 use native.Mathlib.Omega.{arith}
 use lib.ListN.{length, drop, get_or, drop_of_length-le, get_or-eq_default}
 use borrow.Author.Tests.{le-ltb}
-use Rattle.verdict.specs.Refusal.{Done}
-use Rattle.verdict.specs.Refusal.{wrong_op}
+use Rattle.verdict.specs.Refusal.{Done, Good, Bad, judged_by, refusal_of, wrong_op}
 use Rattle.verdict.proofs.Checks.{Accepted, accepted}
 use Rattle.frame.specs.declared.list.Transaction.{Transaction}
-use Rattle.frame.specs.declared.list.Parse.TheVariants.{Good, Bad}
 use Rattle.frame.specs.declared.answer.Answer.{Answer}
 use Rattle.frame.specs.Answers.{answer_record, answer_bytes, put_in}
-use Rattle.frame.specs.List.{list_record, most_transactions, fault_of, record_fault, parse_of, parsed, refusal_of, transaction_at, list_verdict}
+use Rattle.frame.specs.List.{list_record, most_transactions, fault_of, record_fault, parsed, transaction_at, list_verdict}
 
 -- a parse tells what the checks found of its record
 pub refusal-parsed : (list : List ℕ) (k : ℕ) → refusal_of (parsed list k) ≡ record_fault list k
 unfolding parsed
 refusal-parsed list k = go (record_fault list k) (transaction_at list k)
   where
-    go : (f : ℕ) (t : Transaction) → refusal_of (parse_of f t) ≡ f
+    go : (f : ℕ) (t : Transaction) → refusal_of (judged_by f t) ≡ f
     go zero t = refl
     go (suc f) t = refl
 
@@ -27,7 +25,7 @@ refusal-parsed list k = go (record_fault list k) (transaction_at list k)
 pub bad-at-fault : (list : List ℕ) (k c : ℕ) → parsed list k ≡ Bad c → record_fault list k ≡ 0 → ⊥
 unfolding parsed
 bad-at-fault list k c bad none =
-    let good : parse_of 0 (transaction_at list k) ≡ Bad c = ap (λ f. parse_of f (transaction_at list k)) (sym none) ∙ bad in
+    let good : judged_by 0 (transaction_at list k) ≡ Bad c = ap (λ f. judged_by f (transaction_at list k)) (sym none) ∙ bad in
     let z : ◌≡◌ {A = ℕ} 0 1 = cc in
     omega arith
 
@@ -36,7 +34,7 @@ pub good-is-own : (list : List ℕ) (k : ℕ) (t : Transaction) → parsed list 
 unfolding parsed
 good-is-own list k t = go (record_fault list k)
   where
-    go : (f : ℕ) → parse_of f (transaction_at list k) ≡ Good t → t ≡ transaction_at list k
+    go : (f : ℕ) → judged_by f (transaction_at list k) ≡ Good t → t ≡ transaction_at list k
     go zero good = cc
     go (suc f) good = cc
 
@@ -51,7 +49,7 @@ none-past list k past =
 pub parsed-past : (list : List ℕ) (k : ℕ) → length list ≤ k * list_record → parsed list k ≡ Bad wrong_op
 unfolding parsed record_fault
 parsed-past list k past =
-    ap₂ (λ t zero-byte. parse_of (fault_of t zero-byte) t) (none-past list k past) (get_or-eq_default list 0 (omega arith))
+    ap₂ (λ t zero-byte. judged_by (fault_of t zero-byte) t) (none-past list k past) (get_or-eq_default list 0 (omega arith))
 
 -- a record that just fits its part fills it
 pub put-fills : (part : List ℕ) (a : Answer) → length part ≡ answer_record → put_in part a ≡ answer_bytes a
@@ -68,7 +66,7 @@ accepted-list list n e = accepted list_record most_transactions (record_fault li
 -- and each of them parses as a good transaction
 pub accepted-parses : (list : List ℕ) (n : ℕ) → list_verdict list ≡ Done n → (k : ℕ) → k < n → parsed list k ≡ Good (transaction_at list k)
 unfolding parsed
-accepted-parses list n e k within = ap (λ f. parse_of f (transaction_at list k)) ((accepted-list list n e).all_pass k within)
+accepted-parses list n e k within = ap (λ f. judged_by f (transaction_at list k)) ((accepted-list list n e).all_pass k within)
 
 -- so none of them is bad
 pub accepted-not-bad : (list : List ℕ) (n : ℕ) → list_verdict list ≡ Done n → (k c : ℕ) → k < n → parsed list k ≡ Bad c → ⊥

@@ -1,5 +1,5 @@
 -- Document 01, "Records": "List, 6 bytes, 0 to 64: op (1 write, 2 read), PHY address, register, a zero byte, data (2 bytes, zero for a read)."
-use Rattle.std.specs.Prelude.{ℕ, zero, suc, ◌+◌, ◌*◌, Bool, not, ◌&&◌, ◌||◌, List, eqb, ltb}
+use Rattle.std.specs.Prelude.{ℕ, ◌+◌, ◌*◌, Bool, not, ◌&&◌, ◌||◌, List, eqb, ltb}
 use Rattle.verdict.specs.Refusal.{Verdict, Judged, judged_by, wrong_field, wrong_op, ◌when◌, ◌else◌}
 use Rattle.verdict.specs.File.{byte_at, word_at, records, file_verdict}
 use Rattle.verdict.specs.Output.{tabulate}

@@ -53,25 +53,18 @@ impl Transaction {
     fn check(self, zero: u8) -> Result<(), Fault>
         ensures { finding result ≡ fault_of self zero }
     {
-        if self.address > Transaction::LAST_ADDRESS {
+        if self.address > Transaction::LAST_ADDRESS
+            || self.register > Transaction::LAST_REGISTER
+            || zero != 0
+        {
             return Err(Fault::WrongField);
         }
-        if self.register > Transaction::LAST_REGISTER {
-            return Err(Fault::WrongField);
+        match self.op {
+            Transaction::WRITE => Ok(()),
+            Transaction::READ if self.data == 0 => Ok(()),
+            Transaction::READ => Err(Fault::WrongField),
+            _ => Err(Fault::WrongOp),
         }
-        if zero != 0 {
-            return Err(Fault::WrongField);
-        }
-        if self.op == Transaction::WRITE {
-            return Ok(());
-        }
-        if self.op != Transaction::READ {
-            return Err(Fault::WrongOp);
-        }
-        if self.data != 0 {
-            return Err(Fault::WrongField);
-        }
-        Ok(())
     }
 }
 

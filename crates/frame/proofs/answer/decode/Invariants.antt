@@ -1,5 +1,5 @@
 -- Transaction by transaction: after k turns the output begins with the first k answers.
-use Prim.Native.Nat.{ℕ, ◌+◌, ◌-◌, ◌≤◌}
+use Prim.Native.Nat.{ℕ, ◌+◌}
 use mathlib.Core.Path.{◌≡◌}
 use mathlib.Core.List.{List}
 use Rattle.verdict.proofs.Outputs.{pieced}
@@ -13,7 +13,4 @@ abbrev pub piece : List ℕ → List ℕ → ℕ → List ℕ
 piece list log k = answer_bytes (answer_in (transaction_at list k) (log_part log (k + 1)))
 
 abbrev pub invariant-loop-k : goal.invariant-loop-k
-invariant-loop-k l = (l.k ≤ l.count) × (l.answers ≡ pieced 6 (piece l.list l.log) l.initial.answers l.k)
-
-abbrev pub decreases-loop-k : goal.decreases-loop-k
-decreases-loop-k l = l.count - l.k
+invariant-loop-k l = l.answers ≡ pieced 6 (piece l.list l.log) l.initial.answers l.k

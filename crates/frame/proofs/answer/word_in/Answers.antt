@@ -13,7 +13,7 @@ use Rattle.frame.proofs.answer.word_in.Goals as goal
 
 pub loop-i-init : goal.loop-i-init
 unfolding tabulate shift_in
-loop-i-init c = (omega arith, refl, omega arith)
+loop-i-init c = (refl, omega arith)
 
 pub overflow_add-word : goal.overflow_add-word
 unfolding level_at
@@ -29,7 +29,6 @@ loop-i-preserved c =
     let part = c.args.part.now in
     let one_bit : c.level.result < 2 = rw c.level.ensures (mod-lt _ (omega arith)) in
     let power : 2 ^ (i + 1) ≡ 2 ^ i * 2 = rw (add-one, pow-suc) in (
-      omega arith,
-      rw (c.level.ensures, c.loop-i.invariant.1, add-one) (sym (value-more 0 (levels part 49 i) (level_at part (49 + i)))),
+      rw (c.level.ensures, c.loop-i.invariant.0, add-one) (sym (value-more 0 (levels part 49 i) (level_at part (49 + i)))),
       omega (arith, power),
     )

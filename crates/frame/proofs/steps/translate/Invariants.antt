@@ -3,7 +3,7 @@ use mathlib.Core.Path.{◌≡◌}
 use Rattle.verdict.proofs.Outputs.{pieced}
 use Rattle.frame.specs.Steps.{steps_of}
 use mathlib.Core.List.{List}
-use Prim.Native.Nat.{ℕ, ◌-◌, ◌≤◌}
+use Prim.Native.Nat.{ℕ}
 use Rattle.frame.specs.List.{transaction_at}
 use Rattle.frame.proofs.steps.translate.Given as goal
 
@@ -12,7 +12,4 @@ abbrev pub piece : List ℕ → ℕ → List ℕ
 piece list k = steps_of (transaction_at list k)
 
 abbrev pub invariant-loop-k : goal.invariant-loop-k
-invariant-loop-k l = (l.k ≤ l.count) × (l.steps ≡ pieced 65 (piece l.list) l.initial.steps l.k)
-
-abbrev pub decreases-loop-k : goal.decreases-loop-k
-decreases-loop-k l = l.count - l.k
+invariant-loop-k l = l.steps ≡ pieced 65 (piece l.list) l.initial.steps l.k

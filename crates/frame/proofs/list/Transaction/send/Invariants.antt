@@ -1,7 +1,6 @@
 -- Steps fill the part from its start: after i turns it holds the first i steps.
-use Prim.Native.Nat.{ℕ, ◌+◌, ◌-◌, ◌≤◌}
+use Prim.Native.Nat.{ℕ, ◌+◌}
 use mathlib.Core.Path.{◌≡◌}
-use lib.ListN.{length}
 use Rattle.verdict.proofs.Outputs.{filled}
 use Rattle.frame.specs.declared.list.Transaction.{Transaction}
 use Rattle.frame.specs.Steps.{step_at}
@@ -12,7 +11,4 @@ abbrev pub steps : Transaction → ℕ → ℕ
 steps t i = step_at t (i + 1)
 
 abbrev pub invariant-loop-i : goal.invariant-loop-i
-invariant-loop-i l = (l.i ≤ length l.initial.part) × (l.part ≡ filled (steps l.self) l.initial.part l.i)
-
-abbrev pub decreases-loop-i : goal.decreases-loop-i
-decreases-loop-i l = length l.initial.part - l.i
+invariant-loop-i l = l.part ≡ filled (steps l.self) l.initial.part l.i
