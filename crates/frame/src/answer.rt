@@ -2,7 +2,7 @@
 ghost use Rattle.std.specs.Prelude.{◌≡◌, ◌≤◌};
 ghost use Rattle.verdict.specs.Refusal.{said};
 ghost use Rattle.frame.specs.Log.{level_at};
-ghost use Rattle.frame.specs.Answers.{word_in, turnaround_in, is_answered, answer_to, read_answer, answer_in, put_in, Decoded};
+ghost use Rattle.frame.specs.Answers.{word_in, turnaround_in, is_answered, answer_to, read_answer, answer_in, answer_bytes, put_in, Decoded};
 
 use crate::Frame;
 use crate::list::{Transaction, check_list, parsed_at};
@@ -28,23 +28,27 @@ impl Answer {
 
     pub const BYTES: usize = 6;
 
+    // The answer's record, its data high byte first.
+    fn record(self) -> [u8; Answer::BYTES]
+        ensures { result ≡ answer_bytes self }
+    {
+        let [high, low] = self.data.to_be_bytes();
+        [self.status, self.op, self.address, self.register, high, low]
+    }
+
     // Writes the answer's record to the start of a part of the output; where it does not fit nothing is written.
+    #[tactic(auto, unfolding(crate::specs::Answers::put_in))]
     pub fn put(self, part: &mut [u8])
         ensures { part.new ≡ put_in part.old self }
     {
-        if part.len() < Answer::BYTES {
-            return;
+        if part.len() >= Answer::BYTES {
+            part[..Answer::BYTES].copy_from_slice(&self.record());
         }
-        part[0] = self.status;
-        part[1] = self.op;
-        part[2] = self.address;
-        part[3] = self.register;
-        part[4] = (self.data / 256) as u8;
-        part[5] = (self.data % 256) as u8;
     }
 }
 
 // The level at a clock of a transaction's part, from 1; past the part's end it reads 0.
+#[tactic(auto, unfolding(crate::specs::Log::level_at))]
 fn level(part: &[u8], clock: usize) -> u8
     requires { (1 ≤ clock) × (clock ≤ 65) }
     ensures { result ≡ level_at part.now clock }
@@ -110,6 +114,7 @@ impl Transaction {
     }
 
     // The answer in the transaction's part of the log.
+    #[tactic(auto, unfolding(crate::specs::Answers::answer_in))]
     fn answer_in(self, part: &[u8]) -> Answer
         ensures { result ≡ answer_in self part.now }
     {

@@ -5,7 +5,7 @@ ghost use Rattle.frame.specs.List.{transaction_at, fault_of, parsed, list_verdic
 
 use verdict::{Fault, Refusal, byte_at, word_at};
 
-#[derive(Clone, Copy)]
+#[derive(Clone, Copy, Default)]
 pub struct Transaction {
     pub op: u8,
     pub address: u8,
@@ -28,16 +28,12 @@ impl Transaction {
 }
 
 // The transaction of the record at index k; what lies past the list's end reads 0.
+#[tactic(auto, unfolding(crate::specs::List::transaction_at))]
 pub fn transaction_at(list: &[u8], k: usize) -> Transaction
     ensures { result ≡ transaction_at list.now k }
 {
     if list.len() / Transaction::BYTES < k {
-        return Transaction {
-            op: 0,
-            address: 0,
-            register: 0,
-            data: 0,
-        };
+        return Transaction::default();
     }
     let at = k * Transaction::BYTES;
     Transaction {
