@@ -2,4 +2,5 @@ pub mod Frame
 pub mod List
 pub mod Steps
 pub mod Log
+pub mod Parts
 pub mod Answers

@@ -1,12 +1,13 @@
 // The decoder: what a list's log answers (document 01, "Records").
-ghost use Rattle.std.specs.Prelude.{◌≡◌, ◌≤◌};
+ghost use Rattle.std.specs.Prelude.{◌≡◌, ◌≤◌, ◌<◌, ◌+◌};
 ghost use Rattle.verdict.specs.Refusal.{said};
-ghost use Rattle.frame.specs.Log.{level_at};
+ghost use Rattle.frame.specs.Log.{level_at, log_part};
 ghost use Rattle.frame.specs.Answers.{word_in, turnaround_in, is_answered, answer_to, read_answer, answer_in, answer_bytes, put_in, Decoded};
 
 use crate::Frame;
-use crate::list::{Transaction, check_list, parsed_at};
+use crate::list::{Transaction, check_list};
 use crate::log::log_part;
+use crate::parts::put_each;
 use verdict::{Fault, Refusal, byte_at};
 
 #[derive(Clone, Copy)]
@@ -133,19 +134,11 @@ pub fn decode(list: &[u8], log: &[u8], answers: &mut [u8]) -> Result<usize, Refu
     if log.len() != count * Frame::LOG_PART {
         return Err(Fault::WrongLogLength.at(0));
     }
-    if answers.len() < count * Answer::BYTES {
-        return Err(Fault::NoRoom.at(0));
-    }
-    for k in 0..count {
-        // The list's check came first, so no record is bad here, and a refusal has written nothing.
-        let record = parsed_at(list, k);
-        let Ok(transaction) = record else {
-            return Err(record.unwrap_err().at(k));
-        };
-        let answer = transaction.answer_in(log_part(log, k + 1));
-        let at = k * Answer::BYTES;
-        let end = at + Answer::BYTES;
-        answer.put(&mut answers[at..end]);
-    }
-    Ok(count * Answer::BYTES)
+    put_each(
+        list,
+        count,
+        Answer::BYTES,
+        answers,
+        |transaction, k, part| { transaction.answer_in(log_part(log, k + 1)).put(part) },
+    )
 }

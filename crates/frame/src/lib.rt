@@ -5,6 +5,7 @@
 mod answer;
 mod list;
 mod log;
+mod parts;
 mod steps;
 
 pub use answer::{Answer, Turnaround, decode};
@@ -13,8 +14,7 @@ pub use log::log_part;
 pub use steps::{Step, Steps, translate};
 
 // The shared numbers of a frame. Clocks are positions from 1, and each follows from the preamble's length.
-#[derive(Clone, Copy)]
-pub struct Frame {}
+pub struct Frame;
 
 impl Frame {
     pub const PREAMBLE: usize = 32;

@@ -6,12 +6,12 @@ ghost use Rattle.verdict.specs.Output.{tabulate};
 ghost use Rattle.frame.specs.Steps.{step_at, Translated};
 
 use crate::Frame;
-use crate::list::{Transaction, check_list, parsed_at};
-use verdict::{Fault, Refusal};
+use crate::list::{Transaction, check_list};
+use crate::parts::put_each;
+use verdict::Refusal;
 
 // A clock step is one byte.
-#[derive(Clone, Copy)]
-pub struct Step {}
+pub struct Step;
 
 impl Step {
     pub const DRIVE_ZERO: u8 = 0;
@@ -24,8 +24,7 @@ impl Step {
 }
 
 // Steps one after the other, one for each clock.
-#[derive(Clone, Copy)]
-pub struct Steps {}
+pub struct Steps;
 
 impl Steps {
     // As many as the longest list has, and the largest that there is.
@@ -101,18 +100,11 @@ pub fn translate(list: &[u8], steps: &mut [u8]) -> Result<usize, Refusal>
     ensures { Translated list.now steps.old (said result) steps.new }
 {
     let count = check_list(list)?;
-    if steps.len() < count * Frame::CLOCKS {
-        return Err(Fault::NoRoom.at(0));
-    }
-    for k in 0..count {
-        // The list's check came first, so no record is bad here, and a refusal has written nothing.
-        let record = parsed_at(list, k);
-        let Ok(transaction) = record else {
-            return Err(record.unwrap_err().at(k));
-        };
-        let at = k * Frame::CLOCKS;
-        let end = at + Frame::CLOCKS;
-        transaction.send(&mut steps[at..end]);
-    }
-    Ok(count * Frame::CLOCKS)
+    put_each(
+        list,
+        count,
+        Frame::CLOCKS,
+        steps,
+        |transaction, _, part| transaction.send(part),
+    )
 }

@@ -1,0 +1,17 @@
+-- An output in parts of one width, a part for each transaction of a list, and a function that puts a part.
+use Rattle.std.specs.Prelude.{ℕ, ◌≡◌, ◌<◌, List, length}
+use Rattle.std.specs.Borrow.{MutBor}
+use Rattle.std.specs.Fn.{Shared}
+use Rattle.frame.specs.declared.list.Transaction.{Transaction}
+use Rattle.frame.specs.List.{transaction_at}
+
+module _ {F : Type 0} (calls : Shared F (Transaction × (ℕ × (MutBor (List ℕ) × Unit {0}))) (Unit {0} × (MutBor (List ℕ) × Unit {0}))) (put : F) (list : List ℕ) (width : ℕ) where
+  -- it may be called with each of the first `count` transactions, its index and its part
+  abbrev pub Takes : ℕ → Type 0
+  Takes count =
+      (k : ℕ) (t : Transaction) (part : MutBor (List ℕ)) → k < count → t ≡ transaction_at list k → length part.now ≡ width → calls.pre put (t, (k, (part, tt)))
+
+  -- and the part that it leaves is piece k
+  pub record Puts (piece : ℕ → List ℕ) : Type 0 where
+    pub size : (k : ℕ) → length (piece k) ≡ width
+    pub leaves : (k : ℕ) (t : Transaction) (part left : MutBor (List ℕ)) → t ≡ transaction_at list k → length part.now ≡ width → calls.post put (t, (k, (part, tt))) (tt, (left, tt)) → left.now ≡ piece k
