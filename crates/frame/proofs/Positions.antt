@@ -123,3 +123,36 @@ module _ (t : Transaction) where
   pub steps-by-position : tabulate 65 (λ i. step_at t (i + 1)) ≡ steps_of t
   unfolding step_at
   steps-by-position = sym (tabulate-of 65 (λ i. step_at t (i + 1)) (steps_of t) 2 length-steps (λ i h. rw add-one))
+
+-- its rows for the check of the code, at any number that is the row's position
+pub at-preamble : (t : Transaction) (p : ℕ) → 1 ≤ p → p ≤ 32 → step_at t p ≡ 1
+at-preamble t = (by-table t).preamble
+
+pub at-start : (t : Transaction) (p : ℕ) → 33 ≤ p → p ≤ 34 → step_at t p ≡ bit (34 - p) 1
+at-start t = (by-table t).start
+
+pub at-op : (t : Transaction) (p : ℕ) → 35 ≤ p → p ≤ 36 → step_at t p ≡ bit (36 - p) (column (is_read t) 1 2)
+at-op t = (by-table t).op
+
+pub at-address : (t : Transaction) (p : ℕ) → 37 ≤ p → p ≤ 41 → step_at t p ≡ bit (41 - p) t.address
+at-address t = (by-table t).address
+
+pub at-register : (t : Transaction) (p : ℕ) → 42 ≤ p → p ≤ 46 → step_at t p ≡ bit (46 - p) t.register
+at-register t = (by-table t).register
+
+pub at-turnaround-first : (t : Transaction) (p : ℕ) → p ≡ 47 → step_at t p ≡ column (is_read t) 1 2
+at-turnaround-first t p here = rw here (by-table t).turnaround-first
+
+pub at-turnaround-second : (t : Transaction) (p : ℕ) → p ≡ 48 → step_at t p ≡ column (is_read t) 0 3
+at-turnaround-second t p here = rw here (by-table t).turnaround-second
+
+pub at-data : (t : Transaction) (p : ℕ) → 49 ≤ p → p ≤ 64 → step_at t p ≡ column (is_read t) (bit (64 - p) t.«data») 3
+at-data t = (by-table t).«data»
+
+pub at-idle : (t : Transaction) (p : ℕ) → 65 ≤ p → step_at t p ≡ 2
+at-idle t = (by-table t).idle
+
+pub before-first : (t : Transaction) (p : ℕ) → p ≡ 0 → step_at t p ≡ 2
+before-first t p here = rw here (by-table t).before
+
+pub ruleset table = (at-preamble, at-start, at-op, at-address, at-register, at-turnaround-first, at-turnaround-second, at-data, at-idle, before-first)

@@ -43,6 +43,7 @@ fn drive_bit(word: u16, place: usize) -> u8
 
 impl Transaction {
     // The station's step at a clock position from 1.
+    #[tactic(auto, using(crate::proofs::Positions::table))]
     pub fn step(self, position: usize) -> u8
         ensures { result ≡ step_at self position }
     {
