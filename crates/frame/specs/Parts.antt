@@ -1,7 +1,9 @@
 -- An output in parts of one width, a part for each transaction of a list, and a function that puts a part.
-use Rattle.std.specs.Prelude.{ℕ, ◌≡◌, ◌<◌, List, length}
+use Rattle.std.specs.Prelude.{ℕ, ◌*◌, ◌≡◌, ◌<◌, List, length}
 use Rattle.std.specs.Borrow.{MutBor}
 use Rattle.std.specs.Fn.{Shared}
+use Rattle.verdict.specs.Refusal.{Verdict}
+use Rattle.verdict.specs.Output.{tabulate, join, room_for, Writes}
 use Rattle.frame.specs.declared.list.Transaction.{Transaction}
 use Rattle.frame.specs.List.{transaction_at}
 
@@ -15,3 +17,8 @@ module _ {F : Type 0} (calls : Shared F (Transaction × (ℕ × (MutBor (List �
   pub record Puts (piece : ℕ → List ℕ) : Type 0 where
     pub size : (k : ℕ) → length (piece k) ≡ width
     pub leaves : (k : ℕ) (t : Transaction) (part left : MutBor (List ℕ)) → t ≡ transaction_at list k → length part.now ≡ width → calls.post put (t, (k, (part, tt))) (tt, (left, tt)) → left.now ≡ piece k
+
+  -- so a call that has it put `count` parts writes the pieces one after the other, where the output has room for them
+  abbrev pub WritesEach : ℕ → List ℕ → Verdict → List ℕ → Type 0
+  WritesEach count out r out' =
+      (piece : ℕ → List ℕ) → Puts piece → Writes (room_for out (count * width)) (join (tabulate count piece)) out r out'

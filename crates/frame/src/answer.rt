@@ -2,7 +2,7 @@
 ghost use Rattle.std.specs.Prelude.{◌≡◌, ◌≤◌, ◌<◌, ◌+◌};
 ghost use Rattle.verdict.specs.Refusal.{said};
 ghost use Rattle.frame.specs.Log.{level_at, log_part};
-ghost use Rattle.frame.specs.Answers.{word_in, turnaround_in, is_answered, answer_to, read_answer, answer_in, answer_bytes, put_in, Decoded};
+ghost use Rattle.frame.specs.Answers.{word_in, is_answered, answer_to, read_answer, answer_in, answer_bytes, put_in, Decoded};
 
 use crate::Frame;
 use crate::list::{Transaction, check_list};
@@ -10,6 +10,7 @@ use crate::log::log_part;
 use crate::parts::put_each;
 use verdict::{Fault, Refusal, byte_at};
 
+// The status is a byte of a file that C reads, and `Transaction::answer` promises its answer for every byte (`answer_to`).
 #[derive(Clone, Copy)]
 pub struct Answer {
     pub status: u8,
@@ -64,14 +65,6 @@ pub struct Turnaround {
 }
 
 impl Turnaround {
-    fn of(part: &[u8]) -> Turnaround
-        ensures { result ≡ turnaround_in part.now }
-    {
-        Turnaround {
-            second: level(part, Frame::TURNAROUND_SECOND),
-        }
-    }
-
     fn answered(self) -> bool
         ensures { result ≡ is_answered self }
     {
@@ -122,7 +115,8 @@ impl Transaction {
         if self.op != Transaction::READ {
             return self.answer(Answer::SENT, self.data);
         }
-        self.read_answer(Turnaround::of(part), word_in(part))
+        let second = level(part, Frame::TURNAROUND_SECOND);
+        self.read_answer(Turnaround { second }, word_in(part))
     }
 }
 

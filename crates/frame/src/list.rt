@@ -5,6 +5,7 @@ ghost use Rattle.frame.specs.List.{transaction_at, fault_of, parsed, list_verdic
 
 use verdict::{Fault, Refusal, byte_at, word_at};
 
+// The op is a byte of a file and no enum: `transaction_at`, `step` and `answer` promise what they give for every byte.
 #[derive(Clone, Copy, Default)]
 pub struct Transaction {
     pub op: u8,
@@ -68,6 +69,7 @@ impl Transaction {
 pub fn parsed_at(list: &[u8], k: usize) -> Result<Transaction, Fault>
     ensures { judged result ≡ parsed list.now k }
 {
+    // Where k is far past the end its record's place might not fit a usize, so this is asked first, as in `transaction_at`.
     if list.len() / Transaction::BYTES < k {
         return Err(Fault::WrongOp);
     }
@@ -88,6 +90,7 @@ pub fn check_list(list: &[u8]) -> Result<usize, Refusal>
         return Err(Fault::TooMany.at(0));
     }
     for k in 0..count {
+        // Each parse is taken apart by `let .. else`, a rule of document 01; the fault is then had from the same local.
         let record = parsed_at(list, k);
         let Ok(_) = record else {
             return Err(record.unwrap_err().at(k));

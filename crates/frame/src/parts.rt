@@ -1,10 +1,9 @@
 // Outputs of one part for each transaction of a list: steps, and answers (document 01, "Records").
-ghost use Rattle.std.specs.Prelude.{◌≡◌, ◌≤◌, ◌*◌, ℕ, List};
+ghost use Rattle.std.specs.Prelude.{◌≡◌, ◌≤◌};
 ghost use Rattle.verdict.specs.Refusal.{Done, said};
-ghost use Rattle.verdict.specs.Output.{tabulate, join, room_for, Writes};
 ghost use Rattle.frame.specs.Frame.{clocks};
 ghost use Rattle.frame.specs.List.{list_verdict};
-ghost use Rattle.frame.specs.Parts.{Takes, Puts};
+ghost use Rattle.frame.specs.Parts.{Takes, WritesEach};
 
 use crate::list::{Transaction, parsed_at};
 use verdict::{Fault, Refusal};
@@ -20,7 +19,7 @@ pub(crate) fn put_each<F: Fn(Transaction, usize, &mut [u8])>(
     requires accepted { list_verdict list.now ≡ Done count }
     requires narrow { width ≤ clocks }
     requires takes { Takes F.Fn put list.now width count }
-    ensures { (piece : ℕ → List ℕ) → Puts F.Fn put list.now width piece → Writes (room_for out.old (count * width)) (join (tabulate count piece)) out.old (said result) out.new }
+    ensures { WritesEach F.Fn put list.now width count out.old (said result) out.new }
 {
     if out.len() < count * width {
         return Err(Fault::NoRoom.at(0));

@@ -10,7 +10,7 @@ use crate::list::{Transaction, check_list};
 use crate::parts::put_each;
 use verdict::Refusal;
 
-// A clock step is one byte.
+// A clock step is a byte of a file that C reads and writes: `Transaction::step` promises that byte (`step_at`).
 pub struct Step;
 
 impl Step {
