@@ -1,6 +1,6 @@
 -- What document 01 says of lists, steps, answers and parts beside the promises.
 use Prim.Native.Nat.{ℕ, ◌+◌, ◌*◌, ◌≤◌, ◌<◌}
-use mathlib.Core.Path.{◌≡◌, refl, ap, sym, ◌∙◌}
+use mathlib.Core.Path.{◌≡◌, refl, ap, ap₂, sym, ◌∙◌}
 use mathlib.Core.Bool.{Bool, true, false}
 use mathlib.Core.List.{List}
 use native.Mathlib.Omega.{arith}
@@ -20,7 +20,7 @@ use Rattle.frame.specs.Frame.{clocks}
 use Rattle.frame.specs.List.{list_record, most_transactions, is_read, transaction_at, record_fault, list_verdict}
 use Rattle.frame.specs.Steps.{steps_of, step_at, translation, Translated}
 use Rattle.frame.specs.Log.{level_at, log_part, PartOf}
-use Rattle.frame.specs.Answers.{answer_in, answers_in, Decoded}
+use Rattle.frame.specs.Answers.{turnaround_in, word_in, answer_by, answer_in, answers_in, Decoded}
 use Rattle.frame.proofs.Positions.{length-steps}
 
 -- "A refusal returns its number and the record's index": a list is refused for its length, its count, or its first record at fault
@@ -54,8 +54,9 @@ answer-looks-at t part part' same = go (is_read t) refl
     go : (reads : Bool) → is_read t ≡ reads → answer_in t part ≡ answer_in t part'
     go false e = rw e
     go true e =
-        let word = ap value_of (tabulate-ext 16 _ _ (λ i h. same e (49 + i) (omega arith) (omega arith))) in
-        rw (e, same e 48 (omega arith) (omega arith), word)
+        let turnaround : turnaround_in part ≡ turnaround_in part' = ap (λ level. record { second = level }) (same e 48 (omega arith) (omega arith)) in
+        let word : word_in part ≡ word_in part' = ap value_of (tabulate-ext 16 _ _ (λ i h. same e (49 + i) (omega arith) (omega arith))) in
+        ap₂ (answer_by t) turnaround word
 
 pub decode-looks-at : (list log log' : List ℕ) → ((k : ℕ) → is_read (transaction_at list k) ≡ true → SameLevels (log_part log (k + 1)) (log_part log' (k + 1))) → answers_in list log ≡ answers_in list log'
 decode-looks-at list log log' same =

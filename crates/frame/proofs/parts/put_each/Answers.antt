@@ -35,12 +35,12 @@ returns-in_default g c = absurd (accepted-not-bad _ _ c.requires.accepted _ _ (s
 pub put-requires : goal.put-requires
 put-requires g c =
     let sent = good-is-own c.args.list.now c.loop-k.k _ (sym c.in-Ok.ensures) in
-    c.requires.takes c.loop-k.k _ _ (search rules) sent (part-length c.loop-k.out c.loop-k.k c.args.count c.args.width (search rules) (search rules))
+    c.requires.takes c.loop-k.k _ _ (search rules) sent (part-length c.loop-k.out c.loop-k.k c.args.count c.args.width (omega arith) (omega arith))
 
 pub loop-k-preserved : goal.loop-k-preserved
 loop-k-preserved g c = λ piece puts.
     let sent = good-is-own c.args.list.now c.loop-k.k _ (sym c.in-Ok.ensures) in
-    let left = puts.leaves c.loop-k.k _ _ _ sent (part-length c.loop-k.out c.loop-k.k c.args.count c.args.width (search rules) (search rules)) c.put.ensures in
+    let left = puts.leaves c.loop-k.k _ _ _ sent (part-length c.loop-k.out c.loop-k.k c.args.count c.args.width (omega arith) (omega arith)) c.put.ensures in
     rw (left, c.loop-k.invariant piece puts) (piece-next c.args.width piece puts.size c.args.out.now c.loop-k.k)
 
 pub returns : goal.returns
