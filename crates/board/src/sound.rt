@@ -96,7 +96,7 @@ fn in_own_read(own: Own, follower: Follower) -> bool
             if Follower::MOST_SEEN < seen {
                 return false;
             }
-            own.answers(Header::of(bits >> (seen - Phy::HEADER)))
+            own.answers(Header::from(bits >> (seen - Phy::HEADER)))
         }
     }
 }

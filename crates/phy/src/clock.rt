@@ -112,9 +112,9 @@ impl Phy {
         ensures { result ≡ acts seen bits self }
     {
         match seen {
-            Phy::BEFORE_HEADER => self.at_header(Header::of(bits)),
+            Phy::BEFORE_HEADER => self.at_header(Header::from(bits)),
             Follower::MOST_SEEN => {
-                let header = Header::of(bits / Frame::TAIL_VALUES);
+                let header = Header::from(bits / Frame::TAIL_VALUES);
                 let word = (bits % Frame::DATA_VALUES) as u16;
                 let mut after = self.after_frame(header, word);
                 after.captured = 0;

@@ -78,7 +78,7 @@ impl Own {
         if seen > Follower::MOST_SEEN {
             return Drive::Released;
         }
-        let header = Header::of(bits >> (seen - Phy::HEADER));
+        let header = Header::from(bits >> (seen - Phy::HEADER));
         if self.answers(header) {
             Own::answer_bit(seen, captured)
         } else {

@@ -7,7 +7,8 @@ ghost use Rattle.wire.specs.Follower.{one_more, follow, header_of};
 
 use frame::Frame;
 
-// What one party does to the wire in a clock.
+// What one party does to the wire in a clock. An `Option<bool>` would be no plainer: `Some(false)` does not say that the party
+// pulls the wire to 0.
 #[derive(Clone, Copy)]
 pub enum Drive {
     Released,
@@ -15,7 +16,7 @@ pub enum Drive {
 }
 
 // What a party knows of the frames on the wire.
-#[derive(Clone, Copy)]
+#[derive(Clone, Copy, Debug, PartialEq, Eq)]
 pub enum Follower {
     // Hunting for a frame, with the ones seen, at most 32.
     Hunting(u8),
@@ -24,7 +25,7 @@ pub enum Follower {
 }
 
 // The first 14 bits of a frame: start, op, address, register.
-#[derive(Clone, Copy)]
+#[derive(Clone, Copy, Debug, PartialEq, Eq)]
 pub struct Header {
     pub start: u8,
     pub op: u8,
@@ -35,11 +36,14 @@ pub struct Header {
 impl Header {
     // Every frame of ours starts 01.
     pub const OUR_START: u8 = Frame::START_BITS as u8;
+}
 
-    // The header that 14 bits say.
-    pub fn of(bits: u32) -> Header
-        ensures { result ≡ header_of bits }
-    {
+// The header that 14 bits say.
+impl From<u32> for Header {
+    ghost from_gives = { λ bits header. header ≡ header_of bits };
+
+    #[tactic(auto, unfolding(crate::specs::Follower::header_of))]
+    fn from(bits: u32) -> Header {
         Header {
             start: (bits / 4096 % 4) as u8,
             op: (bits / 1024 % 4) as u8,
@@ -61,35 +65,25 @@ impl Follower {
     pub fn one_more(bits: u32, level: bool) -> u32
         ensures { result ≡ one_more bits level }
     {
-        let shifted = bits % Follower::HALF_FRAME_VALUES * 2;
-        if level { shifted + 1 } else { shifted }
+        bits % Follower::HALF_FRAME_VALUES * 2 + u32::from(level)
     }
 
     // What the follower is after a clock at this level, where `enough` ones let a 0 start a frame. A frame is followed to its
     // end whatever it says, also where it starts 00 and is not ours.
+    #[tactic(auto, unfolding(crate::specs::Follower::follow))]
     pub fn follow(self, enough: u8, level: bool) -> Follower
         ensures { result ≡ follow enough level self }
     {
         match self {
-            Follower::Hunting(ones) => {
-                if level {
-                    if ones < Follower::MOST_ONES {
-                        Follower::Hunting(ones + 1)
-                    } else {
-                        Follower::Hunting(Follower::MOST_ONES)
-                    }
-                } else if enough <= ones {
-                    Follower::Inside(1, 0)
-                } else {
-                    Follower::Hunting(0)
-                }
+            Follower::Hunting(ones) if level => {
+                Follower::Hunting(ones.saturating_add(1).min(Follower::MOST_ONES))
             }
-            Follower::Inside(seen, bits) => {
-                if seen >= Follower::MOST_SEEN {
-                    return Follower::Hunting(0);
-                }
+            Follower::Hunting(ones) if ones < enough => Follower::Hunting(0),
+            Follower::Hunting(_) => Follower::Inside(1, 0),
+            Follower::Inside(seen, bits) if seen < Follower::MOST_SEEN => {
                 Follower::Inside(seen + 1, Follower::one_more(bits, level))
             }
+            Follower::Inside(_, _) => Follower::Hunting(0),
         }
     }
 }

@@ -98,7 +98,7 @@ impl Common {
         if Follower::MOST_SEEN < seen {
             return false;
         }
-        self.alike & !asks_to_read(Header::of(bits >> (seen - Phy::HEADER)))
+        self.alike & !asks_to_read(Header::from(bits >> (seen - Phy::HEADER)))
     }
 
     // Whether it is known that a clock at this level moves every follower alike and that no PHY acts in it.
@@ -109,7 +109,7 @@ impl Common {
         match follower {
             Follower::Hunting(ones) => self.alike & (level | (Follower::MOST_ONES <= ones)),
             Follower::Inside(seen, bits) => {
-                let header = Header::of(Follower::one_more(bits, false));
+                let header = Header::from(Follower::one_more(bits, false));
                 let acts = (seen == Phy::BEFORE_HEADER) & asks_to_read(header);
                 self.alike & (!acts & (seen != Follower::MOST_SEEN))
             }

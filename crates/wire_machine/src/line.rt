@@ -71,9 +71,9 @@ impl Line {
         };
         let shifted = Follower::one_more(bits, false);
         match seen {
-            Phy::BEFORE_HEADER => self.own.is_own(Transaction::READ, Header::of(shifted)),
+            Phy::BEFORE_HEADER => self.own.is_own(Transaction::READ, Header::from(shifted)),
             Follower::MOST_SEEN => {
-                let header = Header::of(shifted / Frame::TAIL_VALUES);
+                let header = Header::from(shifted / Frame::TAIL_VALUES);
                 self.own.is_own(Transaction::WRITE, header)
             }
             _ => false,
