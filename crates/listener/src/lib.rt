@@ -32,7 +32,7 @@ impl Capture {
 fn transaction_in(frame: u32) -> Transaction
     ensures { result ≡ transaction_in frame }
 {
-    let header = Header::of(frame / Frame::TAIL_VALUES);
+    let header = Header::from(frame / Frame::TAIL_VALUES);
     Transaction {
         op: header.op,
         address: header.address,
@@ -54,7 +54,7 @@ fn turnaround_in(frame: u32) -> Turnaround
 fn given_by_frame(frame: u32) -> Option<Answer>
     ensures { records_given result ≡ records_of frame }
 {
-    if Header::of(frame / Frame::TAIL_VALUES).start != Header::OUR_START {
+    if Header::from(frame / Frame::TAIL_VALUES).start != Header::OUR_START {
         return None;
     }
     let seen = transaction_in(frame);

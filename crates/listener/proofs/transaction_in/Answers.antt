@@ -4,4 +4,4 @@ use Rattle.listener.proofs.transaction_in.Goals as goal
 
 pub returns : goal.returns
 unfolding transaction_in
-returns c = rw c.of-header.ensures
+returns c = rw c.from-header.ensures
