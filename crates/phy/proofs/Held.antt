@@ -1,11 +1,12 @@
 -- The sentences of "Registers" and "Events" that are no definition line.
-use Prim.Native.Nat.{ℕ, ◌<◌}
-use mathlib.Core.Path.{◌≡◌, refl, ◌∙◌}
-use mathlib.Core.Bool.{Bool, true, false, not, ◌&&◌, cond, and-false}
+use Prim.Native.Nat.{ℕ, ◌≤◌, ◌<◌}
+use mathlib.Core.Path.{◌≡◌, refl, sym, ap, ◌∙◌}
+use mathlib.Core.Bool.{Bool, true, false, not, ◌&&◌, cond, and-false, true≢false}
 use native.Mathlib.Omega.{arith}
 use lib.ListN.{length}
 use lib.Seq.{get_or-set_same}
-use borrow.Author.Tests.{ne_eqb}
+use lib.Dec.{eqb}
+use borrow.Author.Tests.{ne_eqb, le-leb}
 use Rattle.verdict.specs.Bits.{bit}
 use Rattle.phy.specs.declared.Phy.{Phy}
 use Rattle.phy.specs.Abilities.{one}
@@ -13,7 +14,7 @@ use Rattle.phy.specs.Words.{clear_bit}
 use Rattle.phy.specs.Own.{implements}
 use Rattle.phy.specs.Fields.{register_of}
 use Rattle.phy.specs.Registers.{in_reset, masked, held_after, read_status, after_read, write_by, after_write}
-use Rattle.phy.specs.Events.{event}
+use Rattle.phy.specs.Events.{is_event, happening, event}
 use Rattle.phy.proofs.Words.{pick-lt, set_other, clear-other, set_same, clear-same, bit-word_of}
 
 cond_same : {A : Type 0} (t : Bool) (a : A) → cond t a a ≡ a
@@ -34,6 +35,19 @@ reset-ignores-writes r word phy e = rw (e, and-false)
 pub reset-ignores-events : (code : ℕ) (phy : Phy) → in_reset phy ≡ true → (code ≡ 7 → ⊥) → event code phy ≡ phy
 unfolding event
 reset-ignores-events code phy e n7 = rw (e, ne_eqb code 7 n7)
+
+-- a number that is no event's changes nothing
+apart : (code n : ℕ) → is_event code ≡ false → 1 ≤ n → n ≤ 7 → code ≡ n → ⊥
+apart code n unknown from to e =
+    let known : is_event n ≡ true = rw (le-leb 1 n from, le-leb n 7 to) in
+    true≢false (sym known ∙ ap (λ (k : ℕ). is_event k) (sym e) ∙ unknown)
+
+pub unknown_event : (code : ℕ) (phy : Phy) → is_event code ≡ false → event code phy ≡ phy
+unfolding event happening
+unknown_event code phy unknown =
+    let none : (n : ℕ) → 1 ≤ n → n ≤ 7 → eqb code n ≡ false = λ n from to. ne_eqb code n (apart code n unknown from to) in
+    rw (none 1 (omega arith) (omega arith), none 2 (omega arith) (omega arith), none 3 (omega arith) (omega arith), none 4 (omega arith) (omega arith), none 5 (omega arith) (omega arith), none 6 (omega arith) (omega arith), none 7 (omega arith) (omega arith))
+    (cond_same (in_reset phy && true) phy)
 
 -- "then 1.4 and 1.1 clear and 1.2 becomes the link's state": what register 1 holds after a status read. That the read returns it as it was is shown by `clock-header`
 pub status-read : (phy : Phy) → 1 < length phy.registers → register_of 1 (after_read 1 phy) ≡ held_after phy.link (register_of 1 phy)

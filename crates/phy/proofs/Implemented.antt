@@ -1,18 +1,14 @@
 -- Registers are 0 to 31: what is implemented is one of them.
 use Prim.Native.Nat.{ℕ, ◌<◌}
-use mathlib.Core.Path.{◌≡◌, refl}
-use mathlib.Core.Bool.{Bool, true, false, ◌&&◌}
+use mathlib.Core.Path.{◌≡◌}
+use mathlib.Core.Bool.{true}
 use lib.Dec.{ltb}
 use borrow.Author.Tests.{ltb-true}
 use Rattle.phy.specs.declared.own.Own.{Own}
 use Rattle.phy.specs.Abilities.{one}
 use Rattle.phy.specs.Own.{implements}
+use Rattle.phy.proofs.Every.{both}
 
-pub implemented-below : (r : ℕ) (own : Own) (other : Bool) → (implements r own && other) ≡ true → r < 32
+pub implemented_below : (r : ℕ) (own : Own) → implements r own ≡ true → r < 32
 unfolding implements
-implemented-below r own other h =
-    ltb-true r 32 (first (ltb r 32) (one r own.implemented) (first (ltb r 32 && one r own.implemented) other h))
-  where
-    first : (a b : Bool) → (a && b) ≡ true → a ≡ true
-    first true b h = refl
-    first false b h = h
+implemented_below r own h = ltb-true r 32 (both (ltb r 32) (one r own.implemented) h).0

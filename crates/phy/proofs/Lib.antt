@@ -5,6 +5,7 @@ pub mod SoundKept
 pub mod Clocks
 pub mod Derived
 pub mod Effects
+pub mod EventCodes
 pub mod Every
 pub mod Foreign
 pub mod Examples

@@ -1,16 +1,26 @@
 -- The new bits of register 0 are bits, and the speed that two bits ask for is told by the mask of both.
-use Prim.Native.Nat.{ℕ, zero, suc, ◌+◌, ◌-◌, ◌*◌, ◌<◌}
+use Prim.Native.Nat.{ℕ, zero, suc, ◌+◌, ◌-◌, ◌*◌, ◌^◌, ◌<◌}
 use mathlib.Core.Path.{◌≡◌, refl, sym, ap, ◌∙◌}
-use mathlib.Core.Bool.{Bool, true, false, cond, beq, true≢false, false≢true}
+use mathlib.Core.Bool.{Bool, true, false, not, cond, true≢false, false≢true}
 use mathlib.Core.List.{[], ◌∷◌}
 use native.Mathlib.Omega.{arith}
+use native.Mathlib.Nat.{zero-mul}
 use lib.ListN.{get_or}
 use lib.Dec.{eqb}
 use lib.Bits.{bit_and}
 use Rattle.verdict.specs.Bits.{bit, shift_in}
 use Rattle.phy.specs.Abilities.{one, able_full, able_half}
 use Rattle.phy.specs.Control.{duplex_bit, speed_from, new_bits, new_control, new_bit12, new_bit9, new_bit8, new_bit5}
-use Rattle.phy.proofs.Words.{bit-lt, and-mask-of, row-bit}
+use Rattle.phy.proofs.Words.{bit-lt, and-bit, and-mask-of, has-no-bit, row-bit}
+
+-- a bit that is stored where another word has one, else zero
+pub stored-where : (i j status word : ℕ) → cond (eqb (bit_and status (2 ^ i)) 0) 0 (bit_and word (2 ^ j)) ≡ cond (one i status) (bit j word) 0 * 2 ^ j
+stored-where i j status word =
+    ap (λ (t : Bool). cond t 0 (bit_and word (2 ^ j))) (has-no-bit i status) ∙ go (one i status)
+  where
+    go : (t : Bool) → cond (not t) 0 (bit_and word (2 ^ j)) ≡ cond t (bit j word) 0 * 2 ^ j
+    go true = and-bit j word
+    go false = sym (zero-mul (2 ^ j))
 
 cond-lt : (test : Bool) (a b : ℕ) → a < 2 → b < 2 → cond test a b < 2
 cond-lt true a b h l = h
@@ -68,18 +78,12 @@ speed-eleven word ten hundred thousand =
     go zero (suc (suc y)) hx hy e = absurd (omega arith)
     go (suc zero) (suc (suc y)) hx hy e = absurd (omega arith)
 
--- "Bit 8: fixed if only one duplex is able, else stored": by whether both or neither are able, and by full
-pub duplex-stored : (full half : Bool) (b : ℕ) → beq full half ≡ true → duplex_bit full half b ≡ b
+-- "else stored": a bit that both duplexes or none are able to have
+pub duplex-stored : (full half : Bool) (b : ℕ) → full ≡ half → duplex_bit full half b ≡ b
 duplex-stored true true b h = refl
 duplex-stored false false b h = refl
-duplex-stored true false b h = absurd (false≢true h)
+duplex-stored true false b h = absurd (true≢false h)
 duplex-stored false true b h = absurd (false≢true h)
-
-pub duplex-fixed : (full half : Bool) (b : ℕ) → beq full half ≡ false → duplex_bit full half b ≡ cond full 1 0
-duplex-fixed true false b h = refl
-duplex-fixed false true b h = refl
-duplex-fixed true true b h = absurd (true≢false h)
-duplex-fixed false false b h = absurd (true≢false h)
 
 -- the parts that the code adds up are the new word, which fits
 pub control-parts : (status extended old word : ℕ)

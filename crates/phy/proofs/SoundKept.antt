@@ -24,7 +24,7 @@ use Rattle.phy.specs.Typed.{Typed}
 use Rattle.phy.specs.Record.{register_set_right, unimplemented_zero, masks_zero, status_clear, extended_clear, some_ability, control_derived, words_right, defaults_right}
 use Rattle.phy.specs.Sound.{registers_stand, others_at_default, follower_sound, first_bit, in_own_read, captured_sound, phy_sound}
 use Rattle.phy.proofs.Every.{both}
-use Rattle.phy.proofs.Implemented.{implemented-below}
+use Rattle.phy.proofs.Implemented.{implemented_below}
 use Rattle.phy.proofs.Clauses.{Bank, Clauses, sound-clauses, clauses-sound}
 use Rattle.phy.proofs.Clocks.{OwnRead}
 use Rattle.phy.proofs.Lines.{clock-hunting, clock-inside, clock-header, clock-frame}
@@ -102,7 +102,9 @@ module _ (p : Phy) (s : SoundPhy p) where
   after_write_lem r word = go (implements r p.own && not (in_reset p)) refl
     where
       go : (t : Bool) → (implements r p.own && not (in_reset p)) ≡ t → Bank (cond t (write_by r word p) p)
-      go true e = written r word (implemented-below r p.own (not (in_reset p)) e) (not-true (in_reset p) (both (implements r p.own) (not (in_reset p)) e).1)
+      go true e =
+          let asked = both (implements r p.own) (not (in_reset p)) e in
+          written r word (implemented_below r p.own asked.0) (not-true (in_reset p) asked.1)
       go false e = bank
 
   after_frame_lem : (header : Header) (word : ℕ) → Bank (after_frame header word p)

@@ -12,6 +12,8 @@ use lib.Dec.{T, eqb, ltb, ltb→lt}
 use lib.Pow.{pow_pos, pow-lt, split, high, low, field, mod-mod-pow, mod-pow-add, shr-shr}
 use lib.Bits.{bit_and, bit_or, and_block, and_mask, and_zero_r, and_le_l, or_add_and, or_lt}
 use borrow.Author.Tests.{ne_eqb}
+use Rattle.std.proofs.lemmas.Nat.{and-not, and_comm, and_assoc}
+use Rattle.std.proofs.lemmas.Grind.{and-not_self}
 use Rattle.verdict.specs.Bits.{bit, shift_in}
 use Rattle.phy.specs.Abilities.{one}
 use Rattle.phy.specs.Words.{word_of, set_bit, clear_bit}
@@ -41,6 +43,10 @@ and-bit i w =
     ap (bit_and w) (sym (add-zero (2 ^ i))) ∙ and-cons i 0 w (pow_pos i)
     ∙ ap (λ (x : ℕ). bit i w * 2 ^ i + x) (and_zero_r w) ∙ add-zero (bit i w * 2 ^ i)
 
+-- `word & !mask`: what the mask does not keep
+pub and_rest : (m w : ℕ) → m < 2 ^ 16 → w < 2 ^ 16 → bit_and w (65535 - m) ≡ w - bit_and w m
+and_rest m w h l = omega (arith, and-not 16 m w h l, and_comm w (65535 - m), and_comm w m)
+
 -- `word | bit` and `word - (word & bit)`
 pub or-bit : (i w : ℕ) → bit_or w (2 ^ i) ≡ set_bit i w
 or-bit i w = go (bit i w) (bit-lt i w) (or_add_and w (2 ^ i)) (and-bit i w)
@@ -52,6 +58,10 @@ or-bit i w = go (bit i w) (bit-lt i w) (or_add_and w (2 ^ i)) (and-bit i w)
 
 pub clear-bit : (i w : ℕ) → w - bit_and w (2 ^ i) ≡ clear_bit i w
 clear-bit i w = ap (λ (x : ℕ). w - x) (and-bit i w)
+
+-- `word & !bit`
+pub clear-rest : (i w : ℕ) → 2 ^ i < 2 ^ 16 → w < 2 ^ 16 → bit_and w (65535 - 2 ^ i) ≡ clear_bit i w
+clear-rest i w h l = and_rest (2 ^ i) w h l ∙ clear-bit i w
 
 -- the tests `word & bit != 0` and `word & bit == 0`
 pub one-true : (i w : ℕ) → (bit_and w (2 ^ i) ≡ 0 → ⊥) → one i w ≡ true
@@ -128,6 +138,14 @@ has-bit i w = ap (λ (x : ℕ). not (eqb x 0)) (and-bit i w) ∙ go (bit i w) (b
     go (suc zero) h = rw (one-mul, ne_eqb (2 ^ i) 0 (λ none. omega (arith, none, pow_pos i)))
     go (suc (suc b)) h = absurd (omega arith)
 
+-- where a mask finds a bit, no other word is asked; where it finds none, the other word says
+module _ (is : List ℕ) (w : ℕ) (x : Bool) (t : T (falling is)) where
+  pub has-first : (bit_and w (mask_of is) ≡ 0 → ⊥) → any_or is w x ≡ true
+  has-first some = sym (has-any is w x t) ∙ rw (ne_eqb (bit_and w (mask_of is)) 0 some)
+
+  pub has-rest : bit_and w (mask_of is) ≡ 0 → any_or is w x ≡ x
+  has-rest none = sym (has-any is w x t) ∙ rw none
+
 -- and the other way round, `word & mask == 0`
 abbrev pub none_of : List ℕ → ℕ → Bool
 none_of [] w = true
@@ -185,10 +203,20 @@ module _ (mask old word : ℕ) where
           rw (one-mul (2 ^ n), and-cons n (mask % 2 ^ n) old below, and-cons n (mask % 2 ^ n) word below) (omega arith)
       go (suc (suc b)) h = absurd (omega arith)
 
-  -- the code's `old - (old & mask) + (word & mask)`
-  pub merge-word : (n : ℕ) → mask < 2 ^ n → old < 2 ^ n → old - bit_and old mask + bit_and word mask ≡ word_of n pick
-  merge-word n m o =
-      ap₂ (λ (x y : ℕ). x - bit_and old y + bit_and word y) (sym (mod-eq_of_lt o)) (sym (mod-eq_of_lt m)) ∙ merge n
+  -- what a mask keeps of one word and leaves of another has no bit in common
+  apart : mask < 2 ^ 16 → bit_and (bit_and old (65535 - mask)) (bit_and word mask) ≡ 0
+  apart m =
+      ap (bit_and (bit_and old (65535 - mask))) (and_comm word mask)
+      ∙ sym (and_assoc word (bit_and old (65535 - mask)) mask)
+      ∙ ap (λ (x : ℕ). bit_and x word) (and-not_self old 65535 mask mask refl (omega arith) refl)
+      ∙ and_comm 0 word ∙ and_zero_r word
+
+  -- the code's `old & !mask | word & mask`
+  pub merge_word : mask < 2 ^ 16 → old < 2 ^ 16 → bit_or (bit_and old (65535 - mask)) (bit_and word mask) ≡ word_of 16 pick
+  merge_word m o =
+      let sum : bit_or (bit_and old (65535 - mask)) (bit_and word mask) ≡ old - bit_and old mask + bit_and word mask = omega (arith, or_add_and (bit_and old (65535 - mask)) (bit_and word mask), apart m, and_rest mask old m o) in
+      sum
+      ∙ ap₂ (λ (x y : ℕ). x - bit_and old y + bit_and word y) (sym (mod-eq_of_lt o)) (sym (mod-eq_of_lt m)) ∙ merge 16
 
   pub pick-lt : (i : ℕ) → pick i < 2
   pick-lt i = go (one i mask)

@@ -24,9 +24,9 @@ impl Phy {
         ensures { result ≡ fresh own defaults masks }
     {
         Phy {
-            own: own,
-            defaults: defaults,
-            masks: masks,
+            own,
+            defaults,
+            masks,
             registers: defaults,
             link: false,
             follower: Follower::Hunting(0),
@@ -46,25 +46,16 @@ impl Phy {
     }
 
     // The PHY with another line: what the wire knows of it apart, its follower and its captured word.
-    pub fn with_line(self, follower: Follower, captured: u16) -> Phy
+    pub fn with_line(mut self, follower: Follower, captured: u16) -> Phy
         ensures { result ≡ with_line follower captured self }
     {
-        let own = self.own;
-        let defaults = self.defaults;
-        let masks = self.masks;
-        let registers = self.registers;
-        Phy {
-            own: own,
-            defaults: defaults,
-            masks: masks,
-            registers: registers,
-            link: self.link,
-            follower: follower,
-            captured: captured,
-        }
+        self.follower = follower;
+        self.captured = captured;
+        self
     }
 
     // The effect of a header at the 14th frame bit, and of a frame at its 32nd.
+    #[tactic(auto, unfolding(crate::specs::Clock::after_header))]
     pub fn after_header(self, header: Header) -> Phy
         ensures { result ≡ after_header header self }
     {
@@ -75,6 +66,7 @@ impl Phy {
         }
     }
 
+    #[tactic(auto, unfolding(crate::specs::Clock::after_frame))]
     pub fn after_frame(self, header: Header, word: u16) -> Phy
         ensures { result ≡ after_frame header word self }
     {
@@ -89,25 +81,24 @@ impl Phy {
     pub fn drives(self) -> Drive
         ensures { result ≡ drives self }
     {
-        let follower = self.follower;
-        self.own.drives(follower, self.captured)
+        self.own.drives(self.follower, self.captured)
     }
 
     // The 14th frame bit: an own read captures its word and has its effect.
-    fn at_header(self, header: Header) -> Phy
+    #[tactic(auto, unfolding(crate::specs::Clock::at_header))]
+    fn at_header(mut self, header: Header) -> Phy
         ensures { result ≡ at_header header self }
     {
         if self.own.answers(header) {
-            let mut after = self.after_header(header);
-            let held = self.word(header.register);
-            after.captured = held;
-            after
-        } else {
-            self
+            let word = self.word(header.register);
+            self = self.after_header(header);
+            self.captured = word;
         }
+        self
     }
 
     // What a clock does beside the follower's move, by the bits seen before it and the bits with its own.
+    #[tactic(auto, unfolding(crate::specs::Clock::acts))]
     fn acts(self, seen: u8, bits: u32) -> Phy
         ensures { result ≡ acts seen bits self }
     {
@@ -125,15 +116,15 @@ impl Phy {
     }
 
     // The PHY after a clock at a level.
+    #[tactic(auto, unfolding(crate::specs::Clock::clock))]
     pub fn clock(mut self, level: bool) -> Phy
         ensures { result ≡ clock level self }
     {
-        let follower = self.follower;
-        let next = follower.follow(self.enough(), level);
-        let Follower::Inside(seen, bits) = follower else {
-            return self.with_line(next, self.captured);
-        };
-        self = self.acts(seen, Follower::one_more(bits, level));
-        self.with_line(next, self.captured)
+        let next = self.follower.follow(self.enough(), level);
+        if let Follower::Inside(seen, bits) = self.follower {
+            self = self.acts(seen, Follower::one_more(bits, level));
+        }
+        self.follower = next;
+        self
     }
 }

@@ -1,10 +1,12 @@
 // Register 0, control: the bits, and what a write that does not reset leaves in it.
-ghost use Rattle.std.specs.Prelude.{◌≡◌, ◌+◌, ◌*◌, ◌^◌};
+ghost use Rattle.std.specs.Prelude.{◌≡◌, ◌+◌, ◌*◌, ◌^◌, cond, eqb};
+ghost use Rattle.std.specs.Int.Bits.{bit_and};
 ghost use Rattle.verdict.specs.Bits.{bit};
 ghost use Rattle.phy.specs.Abilities.{one};
 ghost use Rattle.phy.specs.Control.{speed_able, speed_from, new_bit12, new_bit9, new_bit8, new_bit5, new_control, new_status};
 
-use crate::status::{ExtendedStatus, Status};
+use crate::abilities::Abilities;
+use crate::status::Status;
 
 #[derive(Clone, Copy)]
 pub struct Control {}
@@ -52,45 +54,57 @@ impl Control {
     pub const THOUSAND: u16 = Control::SPEED_MSB;
 
     // Whether the speed that a word asks for is able.
-    pub fn speed_able(status: u16, extended: u16, word: u16) -> bool
-        ensures { result ≡ speed_able status extended (one 6 word) (one 13 word) }
+    pub fn speed_able(able: Abilities, word: u16) -> bool
+        ensures { result ≡ speed_able able.status able.extended (one 6 word) (one 13 word) }
     {
-        let speed = word & Control::SPEED;
-        match speed {
-            Control::TEN => Status::able_10(status),
-            Control::HUNDRED => Status::able_100(status),
-            Control::THOUSAND => ExtendedStatus::able_1000(extended),
+        match word & Control::SPEED {
+            Control::TEN => able.ten(),
+            Control::HUNDRED => able.hundred(),
+            Control::THOUSAND => able.thousand(),
             _ => false,
         }
     }
 
     // The speed's bits after a write: the old ones where the speed asked for is not able.
-    fn speed(status: u16, extended: u16, old: u16, word: u16) -> u16
-        ensures { result ≡ bit 13 (speed_from status extended old word) * 2 ^ 13 + bit 6 (speed_from status extended old word) * 2 ^ 6 }
+    fn speed(able: Abilities, old: u16, word: u16) -> u16
+        ensures { result ≡ bit 13 (speed_from able.status able.extended old word) * 2 ^ 13 + bit 6 (speed_from able.status able.extended old word) * 2 ^ 6 }
     {
-        if Control::speed_able(status, extended, word) {
+        if Control::speed_able(able, word) {
             word & Control::SPEED
         } else {
             old & Control::SPEED
         }
     }
 
-    // Bit 12 after a write.
-    fn enable(status: u16, word: u16) -> u16
-        ensures { result ≡ new_bit12 status word * 2 ^ 12 }
+    // A bit after a write that is as written where the status says an ability, else zero.
+    fn where_able(able: Abilities, ability: u16, bit: u16, word: u16) -> u16
+        ensures { result ≡ cond (eqb (bit_and able.status ability) 0) 0 (bit_and word bit) }
     {
-        if status & Status::AUTO_NEGOTIATION_ABILITY != 0 {
-            word & Control::AUTO_NEGOTIATION_ENABLE
+        if able.status & ability != 0 {
+            word & bit
         } else {
             0
         }
     }
 
-    // Bit 9 after a write, judged by the new bit 12.
-    fn restart(status: u16, old: u16, word: u16) -> u16
-        ensures { result ≡ new_bit9 status old word * 2 ^ 9 }
+    // Bit 12 after a write.
+    fn enable(able: Abilities, word: u16) -> u16
+        ensures { result ≡ new_bit12 able.status word * 2 ^ 12 }
     {
-        if Control::enable(status, word) == 0 {
+        Control::where_able(
+            able,
+            Status::AUTO_NEGOTIATION_ABILITY,
+            Control::AUTO_NEGOTIATION_ENABLE,
+            word,
+        )
+    }
+
+    // Bit 9 after a write, judged by the new bit 12.
+    #[tactic(auto, unfolding(crate::specs::Control::new_bit9))]
+    fn restart(able: Abilities, old: u16, word: u16) -> u16
+        ensures { result ≡ new_bit9 able.status old word * 2 ^ 9 }
+    {
+        if Control::enable(able, word) == 0 {
             0
         } else if word & Control::RESTART_AUTO_NEGOTIATION != 0 {
             Control::RESTART_AUTO_NEGOTIATION
@@ -99,56 +113,52 @@ impl Control {
         }
     }
 
-    // Bit 8 after a write.
-    fn duplex(status: u16, extended: u16, word: u16) -> u16
-        ensures { result ≡ new_bit8 status extended word * 2 ^ 8 }
+    // Bit 8 after a write: as written, but fixed where one duplex alone is able.
+    #[tactic(auto, unfolding(crate::specs::Control::new_bit8))]
+    fn duplex(able: Abilities, word: u16) -> u16
+        ensures { result ≡ new_bit8 able.status able.extended word * 2 ^ 8 }
     {
-        let full = Status::able_full(status, extended);
-        let half = Status::able_half(status, extended);
-        if full == half {
-            word & Control::FULL_DUPLEX
-        } else if full {
-            Control::FULL_DUPLEX
-        } else {
-            0
+        match (able.full(), able.half()) {
+            (true, false) => Control::FULL_DUPLEX,
+            (false, true) => 0,
+            _ => word & Control::FULL_DUPLEX,
         }
     }
 
     // Bit 5 after a write.
-    fn unidirectional(status: u16, word: u16) -> u16
-        ensures { result ≡ new_bit5 status word * 2 ^ 5 }
+    fn unidirectional(able: Abilities, word: u16) -> u16
+        ensures { result ≡ new_bit5 able.status word * 2 ^ 5 }
     {
-        if status & Status::UNIDIRECTIONAL_ABILITY != 0 {
-            word & Control::UNIDIRECTIONAL_ENABLE
-        } else {
-            0
-        }
+        Control::where_able(
+            able,
+            Status::UNIDIRECTIONAL_ABILITY,
+            Control::UNIDIRECTIONAL_ENABLE,
+            word,
+        )
     }
 
     // Register 0 after a write that does not reset.
-    pub fn written(status: u16, extended: u16, old: u16, word: u16) -> u16
-        ensures { result ≡ new_control status extended old word }
+    pub fn written(able: Abilities, old: u16, word: u16) -> u16
+        ensures { result ≡ new_control able.status able.extended old word }
     {
         (word & Control::STORED)
-            + Control::speed(status, extended, old, word)
-            + Control::enable(status, word)
-            + Control::restart(status, old, word)
-            + Control::duplex(status, extended, word)
-            + Control::unidirectional(status, word)
+            + Control::speed(able, old, word)
+            + Control::enable(able, word)
+            + Control::restart(able, old, word)
+            + Control::duplex(able, word)
+            + Control::unidirectional(able, word)
     }
 
     // Register 1 after such a write of register 0: negotiation is not complete where it is off or starts anew.
-    pub fn status_after(status: u16, word: u16) -> u16
-        ensures { result ≡ new_status status word }
+    pub fn status_after(able: Abilities, word: u16) -> u16
+        ensures { result ≡ new_status able.status word }
     {
-        let cleared = status - (status & Status::AUTO_NEGOTIATION_COMPLETE);
-        let enabled = Control::enable(status, word);
-        if enabled == 0 {
-            return cleared;
+        let enabled = Control::enable(able, word) != 0;
+        let restarted = word & Control::RESTART_AUTO_NEGOTIATION != 0;
+        if enabled && !restarted {
+            able.status
+        } else {
+            able.status & !Status::AUTO_NEGOTIATION_COMPLETE
         }
-        if word & Control::RESTART_AUTO_NEGOTIATION != 0 {
-            return cleared;
-        }
-        status
     }
 }

@@ -1,30 +1,46 @@
 // What happens to a PHY from outside, each event by its number.
-ghost use Rattle.std.specs.Prelude.{◌≡◌, ◌-◌};
+ghost use Rattle.std.specs.Prelude.{◌≡◌, ◌-◌, ◌<◌};
 ghost use Rattle.std.specs.Int.Bits.{bit_and, bit_or};
 ghost use Rattle.phy.specs.Fields.{register_of, with_register, with_link};
-ghost use Rattle.phy.specs.Events.{completes, happening, event};
+ghost use Rattle.phy.specs.Events.{code_of, Decodes, completes, happening, event};
 
 use crate::Phy;
 use crate::control::Control;
 use crate::status::Status;
 
-#[derive(Clone, Copy)]
-pub struct Event {}
+// As a number each is the one of document 01.
+#[derive(Clone, Copy, Debug, PartialEq, Eq)]
+pub enum Event {
+    LinkUp = 1,
+    LinkDown = 2,
+    RemoteFault = 3,
+    Jabber = 4,
+    NegotiationComplete = 5,
+    RestartDone = 6,
+    ResetDone = 7,
+}
 
-impl Event {
-    pub const LINK_UP: u8 = 1;
+// A number that is no event's.
+#[derive(Clone, Copy, Debug, PartialEq, Eq)]
+pub struct UnknownEvent(pub u8);
 
-    pub const LINK_DOWN: u8 = 2;
+impl TryFrom<u8> for Event {
+    type Error = UnknownEvent;
 
-    pub const REMOTE_FAULT: u8 = 3;
+    ghost try_from_gives = { Decodes };
 
-    pub const JABBER: u8 = 4;
-
-    pub const NEGOTIATION_COMPLETE: u8 = 5;
-
-    pub const RESTART_DONE: u8 = 6;
-
-    pub const RESET_DONE: u8 = 7;
+    fn try_from(code: u8) -> Result<Self, UnknownEvent> {
+        match code {
+            1 => Ok(Event::LinkUp),
+            2 => Ok(Event::LinkDown),
+            3 => Ok(Event::RemoteFault),
+            4 => Ok(Event::Jabber),
+            5 => Ok(Event::NegotiationComplete),
+            6 => Ok(Event::RestartDone),
+            7 => Ok(Event::ResetDone),
+            _ => Err(UnknownEvent(code)),
+        }
+    }
 }
 
 impl Phy {
@@ -35,24 +51,21 @@ impl Phy {
         self
     }
 
-    fn set_status(mut self, bit: u16) -> Phy
-        ensures { result ≡ with_register 1 (bit_or (register_of 1 self) bit) self }
+    // A register's bits set, and cleared.
+    fn set(mut self, register: usize, bits: u16) -> Phy
+        requires { register < 32 }
+        ensures { result ≡ with_register register (bit_or (register_of register self) bits) self }
     {
-        self.registers[1] = self.registers[1] | bit;
+        self.registers[register] |= bits;
         self
     }
 
-    fn clear_status(mut self, bit: u16) -> Phy
-        ensures { result ≡ with_register 1 (register_of 1 self - bit_and (register_of 1 self) bit) self }
+    #[tactic(auto, using(crate::proofs::Words::and_rest))]
+    fn clear(mut self, register: usize, bits: u16) -> Phy
+        requires { register < 32 }
+        ensures { result ≡ with_register register (register_of register self - bit_and (register_of register self) bits) self }
     {
-        self.registers[1] = self.registers[1] - (self.registers[1] & bit);
-        self
-    }
-
-    fn clear_control(mut self, bit: u16) -> Phy
-        ensures { result ≡ with_register 0 (register_of 0 self - bit_and (register_of 0 self) bit) self }
-    {
-        self.registers[0] = self.registers[0] - (self.registers[0] & bit);
+        self.registers[register] &= !bits;
         self
     }
 
@@ -61,39 +74,42 @@ impl Phy {
         ensures { result ≡ completes self }
     {
         let control = self.registers[0];
-        if control & Control::AUTO_NEGOTIATION_ENABLE == 0 {
-            return self;
+        let enabled = control & Control::AUTO_NEGOTIATION_ENABLE != 0;
+        let restarting = control & Control::RESTART_AUTO_NEGOTIATION != 0;
+        if enabled && !restarting {
+            self.set(1, Status::AUTO_NEGOTIATION_COMPLETE)
+        } else {
+            self
         }
-        if control & Control::RESTART_AUTO_NEGOTIATION != 0 {
-            return self;
-        }
-        self.set_status(Status::AUTO_NEGOTIATION_COMPLETE)
     }
 
     // What an event does outside reset.
-    fn happening(self, code: u8) -> Phy
-        ensures { result ≡ happening code self }
+    #[tactic(auto, unfolding(crate::specs::Events::happening))]
+    fn happening(self, event: Event) -> Phy
+        ensures { result ≡ happening (code_of event) self }
     {
-        match code {
-            Event::LINK_UP => self.with_link(true),
-            Event::LINK_DOWN => self.clear_status(Status::LINK_STATUS).with_link(false),
-            Event::REMOTE_FAULT => self.set_status(Status::REMOTE_FAULT),
-            Event::JABBER => self.set_status(Status::JABBER_DETECT),
-            Event::NEGOTIATION_COMPLETE => self.complete(),
-            Event::RESTART_DONE => self.clear_control(Control::RESTART_AUTO_NEGOTIATION),
-            Event::RESET_DONE => self.clear_control(Control::RESET),
-            _ => self,
+        match event {
+            Event::LinkUp => self.with_link(true),
+            Event::LinkDown => self.clear(1, Status::LINK_STATUS).with_link(false),
+            Event::RemoteFault => self.set(1, Status::REMOTE_FAULT),
+            Event::Jabber => self.set(1, Status::JABBER_DETECT),
+            Event::NegotiationComplete => self.complete(),
+            Event::RestartDone => self.clear(0, Control::RESTART_AUTO_NEGOTIATION),
+            Event::ResetDone => self.clear(0, Control::RESET),
         }
     }
 
-    // The PHY after an event; in reset only the reset's end acts.
-    pub fn event(mut self, code: u8) -> Phy
+    // The PHY after the event with a number: an unknown one changes nothing, and in reset only the reset's end acts.
+    #[tactic(auto, using(crate::proofs::Held::unknown_event), unfolding(crate::specs::Events::event))]
+    pub fn event(self, code: u8) -> Phy
         ensures { result ≡ event code self }
     {
-        if self.in_reset() & (code != Event::RESET_DONE) {
+        let Ok(event) = Event::try_from(code) else {
+            return self;
+        };
+        if self.in_reset() && event != Event::ResetDone {
             return self;
         }
-        self = self.happening(code);
-        self
+        self.happening(event)
     }
 }

@@ -2,6 +2,7 @@
 // back.
 #![tactic(auto)]
 
+mod abilities;
 mod clock;
 mod control;
 mod events;
@@ -9,8 +10,9 @@ mod own;
 mod registers;
 mod status;
 
+pub use abilities::Abilities;
 pub use control::Control;
-pub use events::Event;
+pub use events::{Event, UnknownEvent};
 pub use own::Own;
 pub use status::{ExtendedStatus, Status};
 use wire::Follower;

@@ -1,6 +1,5 @@
-// Register 1, status, and register 15, extended status: the bits, and the abilities that they say.
+// Register 1, status, and register 15, extended status: the bits, and what a read of the status does.
 ghost use Rattle.std.specs.Prelude.{◌≡◌};
-ghost use Rattle.phy.specs.Abilities.{able10, able100, able1000, able_full, able_half};
 ghost use Rattle.phy.specs.Registers.{held_after};
 
 #[derive(Clone, Copy)]
@@ -66,40 +65,15 @@ impl Status {
         | Status::TEN_HALF
         | Status::HUNDRED_T2_HALF;
 
-    pub fn able_10(status: u16) -> bool
-        ensures { result ≡ able10 status 0 }
-    {
-        status & Status::TEN != 0
-    }
-
-    pub fn able_100(status: u16) -> bool
-        ensures { result ≡ able100 status 0 }
-    {
-        status & Status::HUNDRED != 0
-    }
-
-    pub fn able_full(status: u16, extended: u16) -> bool
-        ensures { result ≡ able_full status extended }
-    {
-        (status & Status::FULL != 0) | (extended & ExtendedStatus::FULL != 0)
-    }
-
-    pub fn able_half(status: u16, extended: u16) -> bool
-        ensures { result ≡ able_half status extended }
-    {
-        (status & Status::HALF != 0) | (extended & ExtendedStatus::HALF != 0)
-    }
-
     // The status after it was read: the latches of remote fault and jabber clear, and the held link is the link.
     pub fn read(status: u16, link: bool) -> u16
         ensures { result ≡ held_after link status }
     {
-        let faultless = status - (status & Status::REMOTE_FAULT);
-        let cleared = faultless - (faultless & Status::JABBER_DETECT);
+        let cleared = status & !Status::REMOTE_FAULT & !Status::JABBER_DETECT;
         if link {
             cleared | Status::LINK_STATUS
         } else {
-            cleared - (cleared & Status::LINK_STATUS)
+            cleared & !Status::LINK_STATUS
         }
     }
 }
@@ -122,10 +96,4 @@ impl ExtendedStatus {
     pub const FULL: u16 = ExtendedStatus::THOUSAND_X_FULL | ExtendedStatus::THOUSAND_T_FULL;
 
     pub const HALF: u16 = ExtendedStatus::THOUSAND_X_HALF | ExtendedStatus::THOUSAND_T_HALF;
-
-    pub fn able_1000(extended: u16) -> bool
-        ensures { result ≡ able1000 0 extended }
-    {
-        extended & ExtendedStatus::THOUSAND != 0
-    }
 }

@@ -1,40 +1,23 @@
--- Each number has its own line; no other number changes anything.
+-- Each event has its own line.
 use Rattle.phy.specs.Fields.{with_link}
+use mathlib.Core.Bool.{false}
 use mathlib.Core.Path.{ap, ◌∙◌}
-use native.Mathlib.Omega.{arith}
-use borrow.Author.Tests.{ne_eqb}
 use Rattle.phy.specs.Events.{happening}
 use Rattle.phy.proofs.Words.{or-bit, clear-bit}
 use Rattle.phy.proofs.Phy.happening.Goals as goal
 
-pub returns-in-1 : goal.returns-in-1
+pub returns-in-LinkDown : goal.returns-in-LinkDown
 unfolding happening
-returns-in-1 c = rw c.in-1.is c.with_link.ensures
+returns-in-LinkDown c = rw (c.in-LinkDown.is, ← clear-bit 2) (c.with_link-in-LinkDown.ensures ∙ ap (with_link false) c.clear.ensures)
 
-pub returns-in-2 : goal.returns-in-2
+pub returns-in-RemoteFault : goal.returns-in-RemoteFault
 unfolding happening
-returns-in-2 c = rw (c.in-2.is, ← clear-bit 2) (c.with_link-in-2.ensures ∙ ap (with_link _) c.clear_status.ensures)
+returns-in-RemoteFault c = rw (c.in-RemoteFault.is, ← or-bit 4) c.set.ensures
 
-pub returns-in-3 : goal.returns-in-3
+pub returns-in-Jabber : goal.returns-in-Jabber
 unfolding happening
-returns-in-3 c = rw (c.in-3.is, ← or-bit 4) c.set_status.ensures
+returns-in-Jabber c = rw (c.in-Jabber.is, ← or-bit 1) c.set-in-Jabber.ensures
 
-pub returns-in-4 : goal.returns-in-4
+pub returns-in-RestartDone : goal.returns-in-RestartDone
 unfolding happening
-returns-in-4 c = rw (c.in-4.is, ← or-bit 1) c.set_status-in-4.ensures
-
-pub returns-in-5 : goal.returns-in-5
-unfolding happening
-returns-in-5 c = rw c.in-5.is c.complete.ensures
-
-pub returns-in-6 : goal.returns-in-6
-unfolding happening
-returns-in-6 c = rw (c.in-6.is, ← clear-bit 9) c.clear_control.ensures
-
-pub returns-in-7 : goal.returns-in-7
-unfolding happening
-returns-in-7 c = rw (c.in-7.is, ← clear-bit 15) c.clear_control-in-7.ensures
-
-pub returns-in_default : goal.returns-in_default
-unfolding happening
-returns-in_default c = rw (ne_eqb c.args.code 1 (omega arith), ne_eqb c.args.code 2 (omega arith), ne_eqb c.args.code 3 (omega arith), ne_eqb c.args.code 4 (omega arith), ne_eqb c.args.code 5 (omega arith), ne_eqb c.args.code 6 (omega arith), ne_eqb c.args.code 7 (omega arith))
+returns-in-RestartDone c = rw (c.in-RestartDone.is, ← clear-bit 9) c.clear-in-RestartDone.ensures

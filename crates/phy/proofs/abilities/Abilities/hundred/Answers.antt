@@ -3,7 +3,7 @@ use mathlib.Core.Path.{◌∙◌}
 use mathlib.Core.List.{[], ◌∷◌}
 use mathlib.Core.Bool.{or-false}
 use Rattle.phy.proofs.Words.{has-these}
-use Rattle.phy.proofs.status.Status.able_100.Goals as goal
+use Rattle.phy.proofs.abilities.Abilities.hundred.Goals as goal
 
 pub returns : goal.returns
-returns c = has-these (15 ∷ 14 ∷ 13 ∷ 10 ∷ 9 ∷ []) c.args.status tt ∙ simp or-false
+returns c = has-these (15 ∷ 14 ∷ 13 ∷ 10 ∷ 9 ∷ []) c.args.self.status tt ∙ simp or-false
