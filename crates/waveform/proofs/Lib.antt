@@ -1,11 +1,11 @@
 pub mod Puts
 pub mod Starts
 pub mod Texts
-pub mod Within
 pub mod Clocks
 pub mod Writing
 pub mod Logs
 pub mod Longest
+pub mod Sizes
 pub mod ValueLines
 pub mod Reading
 pub mod GoingOver

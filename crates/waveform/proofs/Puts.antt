@@ -1,7 +1,6 @@
 -- Text is put piece by piece: what is put behind a piece makes one longer piece with it.
 use Prim.Native.Nat.{ℕ, ◌+◌, ◌≤◌}
-use mathlib.Core.Path.{◌≡◌, refl, ap, ap₂, sym, ◌∙◌}
-use mathlib.Core.Bool.{Bool, true, false, cond}
+use mathlib.Core.Path.{◌≡◌, ap, ap₂, sym, ◌∙◌}
 use mathlib.Core.List.{List, [], ◌++◌, append_assoc}
 use native.Mathlib.Omega.{arith}
 use lib.ListN.{length, take, drop, length-append}
@@ -32,52 +31,33 @@ module _ (text : List ℕ) (at : ℕ) where
       (sym (drop-drop (length second) (at + length first) (take at text ++ first ++ rest)) ∙ ap (drop (length second)) (drop_at (take at text ++ first) rest (at + length first) head) ∙ drop-drop (length second) (at + length first) text ∙ ap (λ n. drop n text) place)
       ∙ ap (λ (front : List ℕ). front ++ drop (at + length (first ++ second)) text) (append_assoc (take at text) first second)
 
+-- room for two pieces is room for the first
+pub room-first : (text : List ℕ) (at : ℕ) (first second : List ℕ) → HasRoom text at (first ++ second) → HasRoom text at first
+room-first text at first second room = omega (arith, room, length-append first second)
+
 -- where nothing is put nothing changes
-pub laid-nothing : (writing : Bool) (text : List ℕ) (at : ℕ) → Laid writing text at [] at text
-laid-nothing writing text at = record { behind = omega arith; output = go writing }
-  where
-    go : (writing : Bool) → text ≡ cond writing (put at [] text) text
-    go true = sym (put-nothing text at)
-    go false = refl
+pub laid-nothing : (text : List ℕ) (at : ℕ) → Laid text at [] at text
+laid-nothing text at = record { behind = omega arith; output = sym (put-nothing text at) }
 
-module _ {writing : Bool} {text : List ℕ} {at : ℕ} where
+module _ {text : List ℕ} {at : ℕ} where
   -- the text keeps its length
-  pub laid-length : {more : List ℕ} {r : ℕ} {text' : List ℕ} → HasRoom writing text at more → Laid writing text at more r text' → length text' ≡ length text
-  laid-length {more} room laid = ap length laid.output ∙ go writing room.fits
-    where
-      go : (writing : Bool) → (writing ≡ true → at + length more ≤ length text) → length (cond writing (put at more text) text) ≡ length text
-      go true fits = length-put text at more (fits refl)
-      go false fits = refl
+  pub laid-length : {more : List ℕ} {r : ℕ} {text' : List ℕ} → HasRoom text at more → Laid text at more r text' → length text' ≡ length text
+  laid-length {more} room laid = ap length laid.output ∙ length-put text at more room
 
-  -- room for two pieces is room for the first, and then for the second
-  pub room-first : (first second : List ℕ) → HasRoom writing text at (first ++ second) → HasRoom writing text at first
-  room-first first second room =
-      record {
-        fits = λ w. omega (arith, room.fits w, length-append first second);
-        short = omega (arith, room.short, length-append first second);
-      }
+  -- and then for the second
 
-  pub room-second : (first second : List ℕ) {r : ℕ} {text' : List ℕ} → HasRoom writing text at (first ++ second) → Laid writing text at first r text' → HasRoom writing text' r second
+  pub room-second : (first second : List ℕ) {r : ℕ} {text' : List ℕ} → HasRoom text at (first ++ second) → Laid text at first r text' → HasRoom text' r second
   room-second first second room laid =
-      let long = laid-length (room-first first second room) laid in
-      record {
-        fits = λ w. omega (arith, room.fits w, length-append first second, laid.behind, long);
-        short = omega (arith, room.short, length-append first second, laid.behind);
-      }
+      omega (arith, room, length-append first second, laid.behind, laid-length (room-first text at first second room) laid)
 
   -- two pieces that are put are put as one
-  pub laid_both : (first second : List ℕ) {r s : ℕ} {text' text'' : List ℕ} → HasRoom writing text at (first ++ second) → Laid writing text at first r text' → Laid writing text' r second s text'' → Laid writing text at (first ++ second) s text''
+  pub laid_both : (first second : List ℕ) {r s : ℕ} {text' text'' : List ℕ} → HasRoom text at (first ++ second) → Laid text at first r text' → Laid text' r second s text'' → Laid text at (first ++ second) s text''
   laid_both first second {text' = text'} room one two =
       record {
         behind = omega (arith, one.behind, two.behind, length-append first second);
         output =
             two.output
-            ∙ ap (λ place. cond writing (put place second text') text') one.behind
-            ∙ ap (λ (t : List ℕ). cond writing (put (at + length first) second t) t) one.output
-            ∙ go writing room.fits;
+            ∙ ap (λ place. put place second text') one.behind
+            ∙ ap (put (at + length first) second) one.output
+            ∙ put-behind text at first second (omega (arith, room));
       }
-    where
-      go : (w : Bool) → (w ≡ true → at + length (first ++ second) ≤ length text) →
-          cond w (put (at + length first) second (cond w (put at first text) text)) (cond w (put at first text) text) ≡ cond w (put at (first ++ second) text) text
-      go true fits = put-behind text at first second (omega (arith, fits refl))
-      go false fits = refl

@@ -1,24 +1,25 @@
 -- What the reader finds is what the writer wrote: a text has the clocks of one list only, and a log for them.
 use Prim.Native.Nat.{ℕ, ◌≤◌, ◌<◌}
-use mathlib.Core.Path.{◌≡◌, refl, subst, ap, sym, ◌∙◌}
+use mathlib.Core.Path.{◌≡◌, refl, subst, ap, ap₂, sym, ◌∙◌}
 use mathlib.Core.Bool.{true, false}
-use mathlib.Core.List.{List, [], map}
+use mathlib.Core.List.{List, [], map, ◌++◌}
 use mathlib.Core.Option.{Option, none, some, none-ne-some}
 use native.Mathlib.Omega.{arith}
-use lib.ListN.{length, length-map}
+use lib.ListN.{length, take, drop, length-map}
 use borrow.Author.Tests.{lt-ltb, le-ltb}
 use Rattle.verdict.specs.Refusal.{Verdict}
 use Rattle.verdict.specs.Refusal.{Done, Refused}
 use Rattle.verdict.specs.Refusal.{no_room, wrong_text}
 use Rattle.verdict.specs.File.{records}
-use Rattle.verdict.specs.Output.{written, room_for, Writes}
+use Rattle.verdict.specs.Output.{room_for, Writes}
 use Rattle.verdict.proofs.Lists.{length-tabulate}
 use Rattle.verdict.proofs.Outputs.{refuses}
 use Rattle.frame.specs.Frame.{log_record}
+use Rattle.frame.specs.Steps.{most_steps}
 use Rattle.waveform.specs.declared.signals.Signals.{Signals}
 use Rattle.waveform.specs.Signals.{flags_of}
 use Rattle.waveform.specs.Waveform.{signals_in, waveform, WritesAs, Reading, ReadBack}
-use Rattle.waveform.specs.Passes.{clocks_in, count_of, flags_of_all, HasPlaces, GoneOver}
+use Rattle.waveform.specs.Passes.{clocks_in, count_of, GoneOver}
 use Rattle.waveform.proofs.Writing.{signals_at, few-clocks}
 use Rattle.waveform.proofs.Reading.{read-was-written, written-is-read}
 use Rattle.waveform.proofs.Logs.{flags-masked, log_of, writes_as}
@@ -75,54 +76,51 @@ reading-both {text} {Same = Same} follows p q = go (whose text)
     go (of-log log writes) = follows _ _ (p.ours log writes) (q.ours log writes)
     go (of_none strange) = follows _ _ (p.foreign strange) (q.foreign strange)
 
--- The two passes of the reader. What a count says of the clocks
-uncounted : (read : Option (List Signals)) {number index : ℕ} → count_of read ≡ Refused number index → read ≡ none
-uncounted none e = refl
-uncounted (some clocks) e = absurd (let z : ◌≡◌ {A = ℕ} 0 1 = cc in omega arith)
-
+-- What the reader's room says: it holds the flags of the clocks that are counted
 record Counts (read : Option (List Signals)) (n : ℕ) : Type 0 where
   pub clocks : List Signals
   pub is : read ≡ some clocks
   pub size : length clocks ≡ n
 
+uncounted : (read : Option (List Signals)) {number index : ℕ} → count_of read ≡ Refused number index → read ≡ none
+uncounted none e = refl
+uncounted (some clocks) e = absurd (let z : ◌≡◌ {A = ℕ} 0 1 = cc in omega arith)
+
 counted : (read : Option (List Signals)) {n : ℕ} → count_of read ≡ Done n → Counts read n
 counted none e = absurd (let z : ◌≡◌ {A = ℕ} 0 1 = cc in omega arith)
 counted (some clocks) e = record { clocks = clocks; is = refl; size = cc }
 
-module _ {text out : List ℕ} {r : Verdict} {out₁ : List ℕ} (first : GoneOver false text out r out₁) where
+module _ {text room : List ℕ} {r : Verdict} (gone : GoneOver text r room) where
   -- a text that is not ours
-  pub not_ours : {number index : ℕ} → r ≡ Refused number index → ReadBack text out r out₁
-  not_ours refused =
-      let unread = uncounted (clocks_in text) (sym first.verdict ∙ refused) in
-      reads_nothing text out r out₁ unread (record { verdict = first.verdict ∙ ap count_of unread; output = first.output })
+  pub not_ours : (out : List ℕ) {number index : ℕ} → r ≡ Refused number index → ReadBack text out r out
+  not_ours out refused =
+      let unread = uncounted (clocks_in text) (sym gone.verdict ∙ refused) in
+      reads_nothing text out r out unread (record { verdict = gone.verdict ∙ ap count_of unread; output = refl })
 
   module _ {n : ℕ} (done : r ≡ Done n) where
     clocks-counted : Counts (clocks_in text) n
-    clocks-counted = counted (clocks_in text) (sym first.verdict ∙ done)
+    clocks-counted = counted (clocks_in text) (sym gone.verdict ∙ done)
 
-    -- its flags have no room
-    pub no_room_lem : length out₁ < n → ReadBack text out (Refused no_room 0) out₁
-    no_room_lem short =
+    -- there are not too many of them
+    pub few-counted : n ≤ most_steps
+    few-counted = let c = clocks-counted in omega (arith, c.size, (read-was-written text c.clocks c.is).1)
+
+    -- the flags have no room in the output
+    pub no_room_lem : (out : List ℕ) → length out < n → ReadBack text out (Refused no_room 0) out
+    no_room_lem out short =
         let c = clocks-counted in
-        let less = lt-ltb (length out) (length c.clocks) (omega (arith, short, ap length first.output, c.size)) in
-        rw first.output (reads_as text out (Refused no_room 0) out c.clocks c.is (refuses _ out (rw less) refl))
+        reads_as text out (Refused no_room 0) out c.clocks c.is (refuses _ out (rw (lt-ltb (length out) (length c.clocks) (omega (arith, short, c.size)))) refl)
 
-    -- they have
-    module _ (fits : n ≤ length out₁) where
-      pub places : HasPlaces true text out₁
-      places =
-          let c = clocks-counted in
-          record {
-            ours = λ writes. rw c.is (ap Done (sym (length-map c.clocks flags_of)));
-            fits = λ writes. rw c.is (omega (arith, fits, c.size, length-map c.clocks flags_of));
-          }
-
-      pub reads : {s : Verdict} {out₂ : List ℕ} → GoneOver true text out₁ s out₂ → ReadBack text out s out₂
-      reads {s} {out₂} second =
-          let c = clocks-counted in
-          let enough = le-ltb (length out) (length c.clocks) (omega (arith, fits, ap length first.output, c.size)) in
-          reads_as text out s out₂ c.clocks c.is
-          (record {
-            verdict = second.verdict ∙ rw (c.is, enough);
-            output = second.output ∙ ap (written (flags_of_all (clocks_in text))) first.output ∙ rw (c.is, enough);
-          })
+    -- they have, and are put there
+    pub reads : (out : List ℕ) → n ≤ length out → (out' : List ℕ) → out' ≡ take n room ++ drop n out → ReadBack text out (Done n) out'
+    reads out fits out' puts =
+        let c = clocks-counted in
+        let flags = map flags_of c.clocks in
+        let size : length flags ≡ n = length-map c.clocks flags_of ∙ c.size in
+        let enough = le-ltb (length out) (length c.clocks) (omega (arith, fits, c.size)) in
+        let taken : take n room ≡ flags = ap (λ m. take m room) (sym c.size) ∙ gone.output c.clocks c.is in
+        reads_as text out (Done n) out' c.clocks c.is
+        (record {
+          verdict = rw enough (ap Done (sym c.size));
+          output = rw enough (puts ∙ ap₂ (λ (front : List ℕ) (m : ℕ). front ++ drop m out) taken (sym size));
+        })

@@ -1,72 +1,73 @@
 -- What the reader takes from a text is what the writer puts there: it passes over a clock's lines exactly, since no line starts like another.
 use Prim.Native.Nat.{ℕ, zero, suc, ◌+◌, ◌≤◌, ◌<◌}
-use mathlib.Core.Path.{◌≡◌, refl, ap, sym, ◌∙◌}
+use mathlib.Core.Path.{◌≡◌, refl, ap, ap₂, sym, ◌∙◌}
 use mathlib.Core.Bool.{Bool, true, false, cond}
 use mathlib.Core.List.{List, [], ◌∷◌, ◌++◌, append_assoc, append-nil}
 use mathlib.Core.Option.{Option, none, some, none-ne-some}
 use native.Mathlib.Omega.{arith}
-use lib.ListN.{length, drop, length-append, length-drop, drop_of_length-le}
+use lib.ListN.{length, drop, length-append}
 use lib.Seq.{drop-append_seam}
 use lib.Dec.{eqb, ltb}
-use borrow.Author.Tests.{eqb-true, ltb-false, eq-eqb, ne_eqb, le-ltb}
+use borrow.Author.Tests.{eqb-true, ltb-false, ne_eqb, le-ltb}
 use Rattle.frame.specs.Steps.{most_steps}
 use Rattle.waveform.specs.declared.signals.Signals.{Signals}
-use Rattle.waveform.specs.declared.read.Shown.{Shown}
-use Rattle.waveform.specs.declared.read.Next.{Next}
-use Rattle.waveform.specs.declared.read.Next.TheVariants.{Clock, Closing, Foreign}
 use Rattle.waveform.specs.Text.{time_line, starts_with}
 use Rattle.waveform.specs.Signals.{signals_of}
 use Rattle.waveform.specs.Waveform.{header, shows_any, value_lines, clock_lines, lines_from, text_of}
-use Rattle.waveform.specs.Passes.{shown_in, least, next_in, prepend, clocks_by, clocks_from, clocks_in}
+use Rattle.waveform.specs.Passes.{Shown, shown_in, least, Next, Clock, Closing, Foreign, next_in, prepend, clocks_by, clocks_from, clocks_in}
 use Rattle.waveform.proofs.ValueLines.{same-untold, sees, clock-seen, all_same, finds-all}
-use Rattle.waveform.proofs.Starts.{starts, started, found, behind}
+use Rattle.waveform.proofs.Starts.{starts, started, behind}
 use Rattle.waveform.proofs.Texts.{no-time, length-time, no_value}
 
+length-zero : (xs : List ℕ) → length xs ≡ 0 → xs ≡ []
+length-zero [] e = refl
+length-zero (x ∷ xs) e = absurd (omega arith)
+
 -- What is read was written. What may come next: the closing time, or a clock's lines, of which there may be none
-data Goes (text : List ℕ) (at clock : ℕ) (old : Signals) : Next → Type 0 where
-  closes : drop at text ≡ time_line clock → Goes text at clock old Closing
-  goes_on : {shown : Shown} → drop at text ≡ clock_lines clock old shown.signals ++ drop shown.behind text → Goes text at clock old (Clock shown)
-  foreign : Goes text at clock old Foreign
+data Goes (text : List ℕ) (clock : ℕ) (old : Signals) : Next → Type 0 where
+  closes : text ≡ time_line clock → Goes text clock old Closing
+  goes_on : {shown : Shown} → text ≡ clock_lines clock old shown.signals ++ shown.rest → Goes text clock old (Clock shown)
+  foreign : Goes text clock old Foreign
 
 -- what the reader takes for next is there
-goes : (text : List ℕ) (at clock : ℕ) (old : Signals) → Goes text at clock old (next_in text at clock old)
+goes : (text : List ℕ) (clock : ℕ) (old : Signals) → Goes text clock old (next_in text clock old)
 unfolding next_in shown_in clock_lines
-goes text at clock old = go _ _ _ _ refl refl refl refl
+goes text clock old = go _ _ _ _ refl refl refl refl
   where
-    values : ℕ
-    values = at + length (time_line clock)
+    values : List ℕ
+    values = drop (length (time_line clock)) text
 
     all : Shown
-    all = shown_in text values old (eqb clock 1)
+    all = shown_in values old (eqb clock 1)
 
-    go : (time end first few : Bool) → starts_with (time_line clock) (drop at text) ≡ time → eqb values (length text) ≡ end → eqb clock 1 ≡ first → ltb all.behind (values + least (eqb clock 1)) ≡ few →
-        Goes text at clock old (cond time (cond end Closing (cond few Foreign (Clock all))) (cond first Foreign (Clock (record { signals = old; behind = at }))))
+    go : (time end first few : Bool) → starts_with (time_line clock) text ≡ time → eqb (length values) 0 ≡ end → eqb clock 1 ≡ first → ltb (length values) (least (eqb clock 1) + length all.rest) ≡ few →
+        Goes text clock old (cond time (cond end Closing (cond few Foreign (Clock all))) (cond first Foreign (Clock (record { signals = old; rest = text }))))
     go true true first few p q r s =
-        let none : drop values text ≡ [] = drop_of_length-le text {i = values} (omega (arith, eqb-true values (length text) q)) in
-        closes (found text at (time_line clock) p ∙ ap (λ more. time_line clock ++ more) none ∙ append-nil (time_line clock))
+        let none : values ≡ [] = length-zero values (eqb-true (length values) 0 q) in
+        closes (started (time_line clock) text p ∙ ap (λ more. time_line clock ++ more) none ∙ append-nil (time_line clock))
     go true false first true p q r s = foreign
     go true false first false p q r s =
-        goes_on (clock-seen text values clock old (sees _ _ _ _ _) (sees _ _ _ _ _) (sees _ _ _ _ _) (ltb-false _ _ s) (found text at (time_line clock) p))
+        goes_on (clock-seen values clock old (sees _ _ _ _) (sees _ _ _ _) (sees _ _ _ _) (ltb-false _ _ s) (started (time_line clock) text p))
     go false end true few p q r s = foreign
     go false end false few p q r s =
-        goes_on {shown = record { signals = old; behind = at }} (rw (r, same-untold old.level, same-untold old.enable, same-untold old.contention))
+        goes_on {shown = record { signals = old; rest = text }} (rw (r, same-untold old.level, same-untold old.enable, same-untold old.contention))
 
--- the text goes on with the lines of these clocks, of which there are few enough
-abbrev pub GoesOnWith : List ℕ → ℕ → ℕ → ℕ → Signals → List Signals → Type 0
-GoesOnWith text left at clock old clocks = (drop at text ≡ lines_from clock old clocks) × (length clocks ≤ left)
+-- the text is the lines of these clocks, of which there are few enough
+abbrev pub Holds : List ℕ → ℕ → ℕ → Signals → List Signals → Type 0
+Holds text left clock old clocks = (text ≡ lines_from clock old clocks) × (length clocks ≤ left)
 
 -- if what is read behind the next clock was written, so was what is read before it
-reads : (text : List ℕ) (left at clock : ℕ) (old : Signals) (clocks : List Signals) (later : Shown → Option (List Signals)) →
-    ((shown : Shown) (rest : List Signals) → later shown ≡ some rest → (drop shown.behind text ≡ lines_from (suc clock) shown.signals rest) × (length rest < left)) →
-    {next : Next} → Goes text at clock old next → clocks_by next later ≡ some clocks → GoesOnWith text left at clock old clocks
+reads : (text : List ℕ) (left clock : ℕ) (old : Signals) (clocks : List Signals) (later : Shown → Option (List Signals)) →
+    ((shown : Shown) (rest : List Signals) → later shown ≡ some rest → (shown.rest ≡ lines_from (suc clock) shown.signals rest) × (length rest < left)) →
+    {next : Next} → Goes text clock old next → clocks_by next later ≡ some clocks → Holds text left clock old clocks
 unfolding lines_from
-reads text left at clock old clocks later rest (closes here) e =
+reads text left clock old clocks later rest (closes here) e =
     let none : [] ≡ clocks = cc in
     rw (← none) (here, omega arith)
-reads text left at clock old clocks later rest foreign e = absurd (none-ne-some clocks e)
-reads text left at clock old clocks later rest (goes_on {shown} here) e = go (later shown) refl e
+reads text left clock old clocks later rest foreign e = absurd (none-ne-some clocks e)
+reads text left clock old clocks later rest (goes_on {shown} here) e = go (later shown) refl e
   where
-    go : (o : Option (List Signals)) → later shown ≡ o → prepend shown.signals o ≡ some clocks → GoesOnWith text left at clock old clocks
+    go : (o : Option (List Signals)) → later shown ≡ o → prepend shown.signals o ≡ some clocks → Holds text left clock old clocks
     go none p e = absurd (none-ne-some clocks e)
     go (some more) p e =
         let r = rest shown more p in
@@ -74,14 +75,14 @@ reads text left at clock old clocks later rest (goes_on {shown} here) e = go (la
         rw (← all) (here ∙ ap (λ lines. clock_lines clock old shown.signals ++ lines) r.0, r.1)
 
 -- so from any clock on what is read was written
-pub sound : (text : List ℕ) (left at clock : ℕ) (old : Signals) (clocks : List Signals) → clocks_from left text at clock old ≡ some clocks → GoesOnWith text left at clock old clocks
+pub sound : (text : List ℕ) (left clock : ℕ) (old : Signals) (clocks : List Signals) → clocks_from left text clock old ≡ some clocks → Holds text left clock old clocks
 unfolding clocks_from
-sound text zero at clock old clocks e =
-    reads text zero at clock old clocks _ (λ shown rest p. absurd (none-ne-some rest p)) (goes text at clock old) e
-sound text (suc left) at clock old clocks e =
-    reads text (suc left) at clock old clocks _
-    (λ shown rest p. let r = sound text left shown.behind (suc clock) shown.signals rest p in (r.0, omega (arith, r.1)))
-    (goes text at clock old)
+sound text zero clock old clocks e =
+    reads text zero clock old clocks _ (λ shown rest p. absurd (none-ne-some rest p)) (goes text clock old) e
+sound text (suc left) clock old clocks e =
+    reads text (suc left) clock old clocks _
+    (λ shown rest p. let r = sound shown.rest left (suc clock) shown.signals rest p in (r.0, omega (arith, r.1)))
+    (goes text clock old)
     e
 
 -- What is written is read. What follows a clock starts with the time line of a later one
@@ -105,76 +106,68 @@ timed (new ∷ later) clock old = go (shows_any clock old new) (timed later (suc
     go false t = record { number = t.number; more = t.more; early = omega (arith, t.early); late = omega (arith, t.late); is = t.is }
 
 -- what the writer puts next is what the reader takes for next: the closing time,
-module _ (text : List ℕ) (at clock : ℕ) (old : Signals) where
-  next-closing : drop at text ≡ time_line clock → next_in text at clock old ≡ Closing
+module _ (text : List ℕ) (clock : ℕ) (old : Signals) where
+  next-closing : text ≡ time_line clock → next_in text clock old ≡ Closing
   unfolding next_in
   next-closing here =
-      let end : at + length (time_line clock) ≡ length text = omega (arith, length-drop at text, ap length here, length-time clock) in
-      rw (here ∙ sym (append-nil (time_line clock)), starts, eq-eqb (at + length (time_line clock)) (length text) end)
+      let alone = here ∙ sym (append-nil (time_line clock)) in
+      let says : starts_with (time_line clock) text ≡ true = rw (alone, starts) in
+      rw (says, behind (time_line clock) alone)
 
   -- or a clock and the lines behind it
-  record Follows (new : Signals) (lines : List ℕ) : Type 0 where
-    pub place : ℕ
-    pub next : next_in text at clock old ≡ Clock (record { signals = new; behind = place })
-    pub rest : drop place text ≡ lines
+  Follows : Signals → List ℕ → Type 0
+  Follows new lines = next_in text clock old ≡ Clock (record { signals = new; rest = lines })
 
   module _ (new : Signals) (lines : List ℕ) (most : ℕ) (time : Timed (suc clock) most lines) (small : most < 10000) where
     -- where it shows signals
-    next-told : shows_any clock old new ≡ true → drop at text ≡ time_line clock ++ (value_lines clock old new ++ lines) → Follows new lines
-    unfolding next_in
+    next-told : shows_any clock old new ≡ true → text ≡ time_line clock ++ (value_lines clock old new ++ lines) → Follows new lines
+    unfolding next_in Follows
     next-told e here =
-        let values = at + length (time_line clock) in
-        let after = behind text at (time_line clock) here in
-        let all = finds-all clock old new text values lines (λ signal value. rw time.is (no_value time.number signal value time.more)) after in
+        let values = value_lines clock old new ++ lines in
+        let says : starts_with (time_line clock) text ≡ true = rw (here, starts) in
+        let all = finds-all clock old new values lines (λ signal value. rw time.is (no_value time.number signal value time.more)) refl in
         let longer : 0 < length lines = rw (ap length time.is ∙ length-append (time_line time.number) time.more) (omega (arith, length-time time.number)) in
-        let open-end : values ≡ length text → ⊥ = λ end. omega (arith, end, length-drop values text, ap length after, length-append (value_lines clock old new) lines) in
-        record {
-          place = all.place;
-          next = rw (ap (starts_with (time_line clock)) here ∙ starts (time_line clock) _, ne_eqb values (length text) open-end, all.seen, le-ltb _ _ (all.enough e));
-          rest = all.rest;
-        }
+        let open-end : length values ≡ 0 → ⊥ = λ end. omega (arith, end, length-append (value_lines clock old new) lines) in
+        rw (says, behind (time_line clock) here, ne_eqb (length values) 0 open-end, all.seen, le-ltb _ _ (all.enough e))
 
     -- and where it shows none
-    next-untold : shows_any clock old new ≡ false → drop at text ≡ lines → Follows new lines
-    unfolding next_in
+    next-untold : shows_any clock old new ≡ false → text ≡ lines → Follows new lines
+    unfolding next_in Follows
     next-untold e here =
         let same = all_same clock old new e in
         let other = no-time clock time.number time.more (omega (arith, time.early)) (omega (arith, time.late)) in
-        record {
-          place = at;
-          next = rw (here, time.is, other, same.0) (ap (λ signals. Clock (record { signals = signals; behind = at })) same.1);
-          rest = here;
-        }
+        let says : starts_with (time_line clock) text ≡ false = rw (here, time.is, other) in
+        rw (says, same.0) (ap₂ (λ (signals : Signals) (rest : List ℕ). Clock (record { signals = signals; rest = rest })) same.1 here)
 
     -- in either case the reader takes that clock
-    next-clock : drop at text ≡ clock_lines clock old new ++ lines → Follows new lines
+    next-clock : text ≡ clock_lines clock old new ++ lines → Follows new lines
     unfolding clock_lines
     next-clock here = go (shows_any clock old new) refl here
       where
-        go : (b : Bool) → shows_any clock old new ≡ b → drop at text ≡ cond b (time_line clock ++ value_lines clock old new) [] ++ lines → Follows new lines
+        go : (b : Bool) → shows_any clock old new ≡ b → text ≡ cond b (time_line clock ++ value_lines clock old new) [] ++ lines → Follows new lines
         go true e here = next-told e (here ∙ append_assoc (time_line clock) (value_lines clock old new) lines)
         go false e here = next-untold e here
 
 -- so from any clock on what is written is read
-pub complete : (text : List ℕ) (clocks : List Signals) (left at clock : ℕ) (old : Signals) →
-    drop at text ≡ lines_from clock old clocks → length clocks ≤ left → clock + left < 10000 → clocks_from left text at clock old ≡ some clocks
-unfolding clocks_from lines_from
-complete text [] zero at clock old here few small = rw (next-closing text at clock old here)
-complete text [] (suc left) at clock old here few small = rw (next-closing text at clock old here)
-complete text (new ∷ later) zero at clock old here few small = absurd (omega arith)
-complete text (new ∷ later) (suc left) at clock old here few small =
-    let follows = next-clock text at clock old new _ _ (timed later (suc clock) new) (omega arith) here in
-    rw (follows.next, complete text later left follows.place (suc clock) new follows.rest (omega arith) (omega arith))
+pub complete : (text : List ℕ) (clocks : List Signals) (left clock : ℕ) (old : Signals) →
+    text ≡ lines_from clock old clocks → length clocks ≤ left → clock + left < 10000 → clocks_from left text clock old ≡ some clocks
+unfolding clocks_from lines_from Follows
+complete text [] zero clock old here few small = rw (next-closing text clock old here)
+complete text [] (suc left) clock old here few small = rw (next-closing text clock old here)
+complete text (new ∷ later) zero clock old here few small = absurd (omega arith)
+complete text (new ∷ later) (suc left) clock old here few small =
+    let follows = next-clock text clock old new _ _ (timed later (suc clock) new) (omega arith) here in
+    rw (follows, complete (lines_from (suc clock) new later) later left (suc clock) new refl (omega arith) (omega arith))
 
 -- Whole texts: what is read was written,
 pub read-was-written : (text : List ℕ) (clocks : List Signals) → clocks_in text ≡ some clocks → (text_of clocks ≡ text) × (length clocks ≤ most_steps)
 unfolding clocks_in text_of
 read-was-written text clocks e = go (starts_with header text) refl e
   where
-    go : (b : Bool) → starts_with header text ≡ b → cond b (clocks_from most_steps text (length header) 1 (signals_of 0)) none ≡ some clocks →
+    go : (b : Bool) → starts_with header text ≡ b → cond b (clocks_from most_steps (drop (length header) text) 1 (signals_of 0)) none ≡ some clocks →
         (header ++ lines_from 1 (signals_of 0) clocks ≡ text) × (length clocks ≤ most_steps)
     go true p e =
-        let r = sound text most_steps (length header) 1 (signals_of 0) clocks e in
+        let r = sound (drop (length header) text) most_steps 1 (signals_of 0) clocks e in
         (sym (started header text p ∙ ap (λ lines. header ++ lines) r.0), r.1)
     go false p e = absurd (none-ne-some clocks e)
 
@@ -182,7 +175,7 @@ read-was-written text clocks e = go (starts_with header text) refl e
 pub written-is-read : (text : List ℕ) (clocks : List Signals) → text_of clocks ≡ text → length clocks ≤ most_steps → clocks_in text ≡ some clocks
 unfolding clocks_in text_of
 written-is-read text clocks e few =
-    rw (← e, starts) (complete _ clocks most_steps (length header) 1 (signals_of 0) (drop-append_seam header _) few (omega arith))
+    rw (← e, starts) (complete _ clocks most_steps 1 (signals_of 0) (drop-append_seam header _) few (omega arith))
 
 -- so a text tells its clocks
 pub text-tells : (xs ys : List Signals) → length xs ≤ most_steps → length ys ≤ most_steps → text_of xs ≡ text_of ys → xs ≡ ys

@@ -1,34 +1,32 @@
 -- Whether a text starts with a line: byte by byte, and what then stands behind the line.
-use Prim.Native.Nat.{ℕ, suc, ◌+◌, ◌<◌}
+use Prim.Native.Nat.{ℕ, ◌+◌}
 use mathlib.Core.Path.{◌≡◌, refl, ap, ap₂, sym, ◌∙◌}
-use mathlib.Core.Bool.{true, false, ◌&&◌, and-false, and-eq-true_iff, false≢true}
+use mathlib.Core.Bool.{Bool, true, false, ◌&&◌, and-eq-true_iff, false≢true}
 use mathlib.Core.List.{List, [], ◌∷◌, ◌++◌}
-use native.Mathlib.Omega.{arith}
-use native.Mathlib.Numerals.{add-one}
-use lib.ListN.{length, get_or, drop}
-use lib.Seq.{drop-cons, drop-drop, drop-append_seam}
+use lib.ListN.{length, drop, take}
+use lib.Seq.{drop-append_seam}
 use lib.Dec.{eqb}
-use borrow.Author.Tests.{eqb-true, eq-eqb, ne_eqb}
+use borrow.Author.Tests.{eqb-true, eqb-false, eq-eqb, ne_eqb}
+use Rattle.std.specs.Prelude.{nat_eq}
+use Rattle.std.specs.Cmp.Lexicographic.{pointwise}
 use Rattle.waveform.specs.Text.{starts_with}
 
--- a text that is too short
-pub too_short : (line text : List ℕ) → length text < length line → starts_with line text ≡ false
-too_short [] text h = absurd (omega arith)
-too_short (b ∷ line) [] h = refl
-too_short (b ∷ line) (c ∷ text) h = rw (too_short line text (omega arith)) (and-false (eqb b c))
+-- what the bytes in the line's place say, compared with the line's
+either-way : (m n : ℕ) → eqb m n ≡ eqb n m
+either-way m n = go (eqb m n) refl
+  where
+    go : (b : Bool) → eqb m n ≡ b → b ≡ eqb n m
+    go true e = sym (eq-eqb n m (sym (eqb-true m n e)))
+    go false e = sym (ne_eqb n m (λ same. eqb-false m n e (sym same)))
 
-module _ (line text : List ℕ) (at i : ℕ) (in-line : i < length line) (in-text : at + i < length text) where
-  -- from one byte to the next
-  one_byte : starts_with (drop i line) (drop (at + i) text) ≡ (eqb (get_or line i 0) (get_or text (at + i) 0) && starts_with (drop (suc i) line) (drop (suc (at + i)) text))
-  one_byte = ap₂ starts_with (drop-cons line i 0 in-line) (drop-cons text (at + i) 0 in-text)
+pub compared : (line text : List ℕ) → pointwise nat_eq (take (length line) text) line ≡ starts_with line text
+compared [] text = refl
+compared (b ∷ line) [] = refl
+compared (b ∷ line) (c ∷ text) = ap₂ ◌&&◌ (either-way c b) (compared line text)
 
-  pub goes-on-by : get_or text (at + i) 0 ≡ get_or line i 0 → starts_with (drop i line) (drop (at + i) text) ≡ starts_with (drop (i + 1) line) (drop (at + (i + 1)) text)
-  goes-on-by same =
-      let place : suc (at + i) ≡ at + (i + 1) = omega arith in
-      one_byte ∙ rw (eq-eqb (get_or line i 0) (get_or text (at + i) 0) (sym same), place, add-one)
-
-  pub ends_by : (get_or text (at + i) 0 ≡ get_or line i 0 → ⊥) → starts_with (drop i line) (drop (at + i) text) ≡ false
-  ends_by other = one_byte ∙ rw (ne_eqb (get_or line i 0) (get_or text (at + i) 0) (λ same. other (sym same)))
+-- the same of a line that is known
+pub asked : (line known text : List ℕ) (b : Bool) → line ≡ known → pointwise nat_eq (take (length line) text) line ≡ b → starts_with known text ≡ b
+asked line known text b same is = sym (compared known text) ∙ ap (λ l. pointwise nat_eq (take (length l) text) l) (sym same) ∙ is
 
 -- a line with anything behind it starts with the line
 pub starts : (line more : List ℕ) → starts_with line (line ++ more) ≡ true
@@ -43,10 +41,6 @@ started (b ∷ line) (c ∷ text) e =
     let both = (and-eq-true_iff (eqb b c) (starts_with line text)).0 e in
     ap₂ ◌∷◌ (sym (eqb-true b c both.0)) (started line text both.1)
 
--- the same from a place in a text on, and what stands behind a line that is there
-module _ (text : List ℕ) (at : ℕ) (line : List ℕ) where
-  pub found : starts_with line (drop at text) ≡ true → drop at text ≡ line ++ drop (at + length line) text
-  found e = started line (drop at text) e ∙ ap (λ more. line ++ more) (drop-drop (length line) at text)
-
-  pub behind : {more : List ℕ} → drop at text ≡ line ++ more → drop (at + length line) text ≡ more
-  behind {more} here = sym (drop-drop (length line) at text) ∙ ap (drop (length line)) here ∙ drop-append_seam line more
+-- what stands behind a line
+pub behind : (line : List ℕ) {text more : List ℕ} → text ≡ line ++ more → drop (length line) text ≡ more
+behind line {more = more} here = ap (drop (length line)) here ∙ drop-append_seam line more

@@ -4,17 +4,16 @@ use mathlib.Core.Path.{◌≡◌, refl, ap, sym, ◌∙◌}
 use mathlib.Core.Bool.{Bool, true, false, not, ◌&&◌, ◌||◌, cond, beq, false≢true, true≢false}
 use mathlib.Core.List.{List, ◌++◌, append_assoc}
 use native.Mathlib.Omega.{arith}
-use lib.ListN.{drop}
+use lib.ListN.{length, drop, length-append, length-drop}
 use lib.Dec.{eqb}
 use Rattle.waveform.specs.declared.signals.Signals.{Signals}
 use Rattle.waveform.specs.declared.signals.Signal.{Signal}
 use Rattle.waveform.specs.declared.signals.Signal.TheVariants.{Level, Enable, Contention}
-use Rattle.waveform.specs.declared.read.Seen.{Seen}
 use Rattle.waveform.specs.Text.{time_line, starts_with}
 use Rattle.waveform.specs.Signals.{line_of, value_line}
 use Rattle.waveform.specs.Waveform.{shows_any, value_lines, clock_lines}
-use Rattle.waveform.specs.Passes.{says_value, seen_in, shown_in, least}
-use Rattle.waveform.proofs.Starts.{starts, found, behind}
+use Rattle.waveform.specs.Passes.{Seen, seen_in, shown_in, least}
+use Rattle.waveform.proofs.Starts.{starts, started, behind}
 use Rattle.waveform.proofs.Texts.{letter, length-line, other-value, other-signal}
 
 -- whether a clock shows a signal: at clock 1, or where it changes
@@ -32,44 +31,44 @@ same-untold true = refl
 same-untold false = refl
 
 -- What is seen was written. One signal: a line that the writer puts there, or none, which is too little at clock 1
-pub record Sees (text : List ℕ) (at : ℕ) (signal : Signal) (old first : Bool) (seen : Seen) : Type 0 where
-  pub most : seen.behind ≤ at + 3
-  pub hidden : told first old seen.value ≡ false → seen.behind ≡ at
-  pub line : (first ≡ true → at + 3 ≤ seen.behind) → drop at text ≡ value_line signal (told first old seen.value) seen.value ++ drop seen.behind text
+pub record Sees (text : List ℕ) (signal : Signal) (old first : Bool) (seen : Seen) : Type 0 where
+  pub most : length text ≤ 3 + length seen.rest
+  pub hidden : told first old seen.value ≡ false → seen.rest ≡ text
+  pub line : (first ≡ true → 3 + length seen.rest ≤ length text) → text ≡ value_line signal (told first old seen.value) seen.value ++ seen.rest
 
-module _ (text : List ℕ) (at : ℕ) (signal : Signal) (old first : Bool) where
-  sees-line : (value : Bool) → says_value text at signal value ≡ true → told first old value ≡ true → Sees text at signal old first (record { value = value; behind = at + 3 })
+module _ (text : List ℕ) (signal : Signal) (old first : Bool) where
+  sees-line : (value : Bool) → starts_with (line_of signal value) text ≡ true → told first old value ≡ true → Sees text signal old first (record { value = value; rest = drop 3 text })
   sees-line value says tells =
       record {
-        most = omega arith;
+        most = omega (arith, length-drop 3 text);
         hidden = λ h. absurd (true≢false (sym tells ∙ h));
-        line = λ h. rw tells (rw length-line at (found text at (line_of signal value) says));
+        line = λ h. rw tells (rw length-line at (started (line_of signal value) text says));
       }
 
-  sees-none : Sees text at signal old first (record { value = old; behind = at })
+  sees-none : Sees text signal old first (record { value = old; rest = text })
   sees-none = record { most = omega arith; hidden = λ h. refl; line = go first }
     where
-      go : (first : Bool) → (first ≡ true → at + 3 ≤ at) → drop at text ≡ value_line signal (told first old old) old ++ drop at text
+      go : (first : Bool) → (first ≡ true → 3 + length text ≤ length text) → text ≡ value_line signal (told first old old) old ++ text
       go true long = absurd (omega (arith, long refl))
       go false long = rw (same-untold old)
 
-  pub sees : Sees text at signal old first (seen_in text at signal old first)
+  pub sees : Sees text signal old first (seen_in text signal old first)
   unfolding seen_in
-  sees = go (says_value text at signal (not old)) first (says_value text at signal old) refl refl refl
+  sees = go (starts_with (line_of signal (not old)) text) first (starts_with (line_of signal old) text) refl refl refl
     where
-      go : (other first' same : Bool) → says_value text at signal (not old) ≡ other → first ≡ first' → says_value text at signal old ≡ same →
-          Sees text at signal old first (cond other (record { value = not old; behind = at + 3 }) (cond (first' && same) (record { value = old; behind = at + 3 }) (record { value = old; behind = at })))
+      go : (other first' same : Bool) → starts_with (line_of signal (not old)) text ≡ other → first ≡ first' → starts_with (line_of signal old) text ≡ same →
+          Sees text signal old first (cond other (record { value = not old; rest = drop 3 text }) (cond (first' && same) (record { value = old; rest = drop 3 text }) (record { value = old; rest = text })))
       go true first' same p q r = sees-line (not old) p (change-told first old)
       go false true true p q r = sees-line old r (rw q)
       go false true false p q r = sees-none
       go false false same p q r = sees-none
 
 -- All three: where lines enough are passed over they are a clock's, and there is one among them
-module _ (text : List ℕ) (values clock : ℕ) (old : Signals) {l e c : Seen}
-    (level : Sees text values Level old.level (eqb clock 1) l)
-    (enable : Sees text l.behind Enable old.enable (eqb clock 1) e)
-    (contention : Sees text e.behind Contention old.contention (eqb clock 1) c)
-    (enough : values + least (eqb clock 1) ≤ c.behind) where
+module _ (values : List ℕ) (clock : ℕ) (old : Signals) {l e c : Seen}
+    (level : Sees values Level old.level (eqb clock 1) l)
+    (enable : Sees l.rest Enable old.enable (eqb clock 1) e)
+    (contention : Sees e.rest Contention old.contention (eqb clock 1) c)
+    (enough : least (eqb clock 1) + length c.rest ≤ length values) where
   abbrev pub new : Signals
   new = record { level = l.value; enable = e.value; contention = c.value }
 
@@ -77,30 +76,30 @@ module _ (text : List ℕ) (values clock : ℕ) (old : Signals) {l e c : Seen}
   some-told : shows_any clock old new ≡ true
   some-told = go (eqb clock 1) _ _ _ enough level.hidden enable.hidden contention.hidden
     where
-      go : (first a b c' : Bool) → values + least first ≤ c.behind →
-          (a ≡ false → l.behind ≡ values) → (b ≡ false → e.behind ≡ l.behind) → (c' ≡ false → c.behind ≡ e.behind) → a || b || c' ≡ true
+      go : (first a b c' : Bool) → least first + length c.rest ≤ length values →
+          (a ≡ false → l.rest ≡ values) → (b ≡ false → e.rest ≡ l.rest) → (c' ≡ false → c.rest ≡ e.rest) → a || b || c' ≡ true
       go first true b c' h p q r = refl
       go first false true c' h p q r = refl
       go first false false true h p q r = refl
-      go true false false false h p q r = absurd (omega (arith, p refl, q refl, r refl))
-      go false false false false h p q r = absurd (omega (arith, p refl, q refl, r refl))
+      go true false false false h p q r = absurd (omega (arith, ap length (p refl), ap length (q refl), ap length (r refl)))
+      go false false false false h p q r = absurd (omega (arith, ap length (p refl), ap length (q refl), ap length (r refl)))
 
   -- at clock 1 each passes over a line
-  lines-seen : drop values text ≡ value_lines clock old new ++ drop c.behind text
+  lines-seen : values ≡ value_lines clock old new ++ c.rest
   lines-seen =
-      let all : eqb clock 1 ≡ true → values + 9 ≤ c.behind = λ first. omega (arith, enough, ap least first) in
+      let all : eqb clock 1 ≡ true → 9 + length c.rest ≤ length values = λ first. omega (arith, enough, ap least first) in
       let of-level = level.line (λ first. omega (arith, all first, enable.most, contention.most)) in
       let of-enable = enable.line (λ first. omega (arith, all first, level.most, contention.most)) in
       let of-contention = contention.line (λ first. omega (arith, all first, level.most, enable.most)) in
       simp append_assoc (rw (← of-contention, ← of-enable, ← of-level))
 
-  pub clock-seen : {here : List ℕ} → here ≡ time_line clock ++ drop values text → here ≡ clock_lines clock old new ++ drop c.behind text
+  pub clock-seen : {here : List ℕ} → here ≡ time_line clock ++ values → here ≡ clock_lines clock old new ++ c.rest
   unfolding clock_lines
   clock-seen time =
       rw some-told
       (time
       ∙ ap (λ more. time_line clock ++ more) lines-seen
-      ∙ sym (append_assoc (time_line clock) (value_lines clock old new) (drop c.behind text)))
+      ∙ sym (append_assoc (time_line clock) (value_lines clock old new) c.rest))
 
 -- what is not told did not change, and the clock is not the first
 same_old : (first old now : Bool) → told first old now ≡ false → (first ≡ false) × (old ≡ now)
@@ -137,29 +136,35 @@ abbrev pub Silent : Signal → List ℕ → Type 0
 Silent signal more = (value : Bool) → starts_with (line_of signal value) more ≡ false
 
 -- one signal: the reader finds the line that the writer puts, or none where it puts none
-record Finds (text : List ℕ) (at : ℕ) (signal : Signal) (old first new : Bool) (more : List ℕ) : Type 0 where
-  pub place : ℕ
-  pub seen : seen_in text at signal old first ≡ record { value = new; behind = place }
-  pub rest : drop place text ≡ more
-  pub size : place ≡ at + cond (told first old new) 3 0
+record Finds (text : List ℕ) (signal : Signal) (old first new : Bool) (more : List ℕ) : Type 0 where
+  pub seen : seen_in text signal old first ≡ record { value = new; rest = more }
+  pub size : length text ≡ cond (told first old new) 3 0 + length more
 
-module _ (text : List ℕ) (at : ℕ) (signal : Signal) (more : List ℕ) (silent : Silent signal more) where
-  behind-line : (value : Bool) → drop at text ≡ line_of signal value ++ more → drop (at + 3) text ≡ more
-  behind-line value here = rw length-line at (behind text at (line_of signal value) here)
+module _ (text : List ℕ) (signal : Signal) (more : List ℕ) (silent : Silent signal more) where
+  behind-line : (value : Bool) → text ≡ line_of signal value ++ more → drop 3 text ≡ more
+  behind-line value here = rw length-line at (behind (line_of signal value) here)
 
-  finds-change : (first old : Bool) → drop at text ≡ line_of signal (not old) ++ more → Finds text at signal old first (not old) more
+  line-long : (value : Bool) → text ≡ line_of signal value ++ more → length text ≡ 3 + length more
+  line-long value here = omega (arith, ap length here, length-append (line_of signal value) more, length-line signal value)
+
+  finds-change : (first old : Bool) → text ≡ line_of signal (not old) ++ more → Finds text signal old first (not old) more
   unfolding seen_in
-  finds-change first old here = record { place = at + 3; seen = rw (here, starts); rest = behind-line (not old) here; size = rw change-told }
+  finds-change first old here =
+      let says : starts_with (line_of signal (not old)) text ≡ true = rw (here, starts) in
+      record { seen = rw (says, behind-line (not old) here); size = rw change-told (line-long (not old) here) }
 
-  finds-same : (old : Bool) → drop at text ≡ line_of signal old ++ more → Finds text at signal old true old more
+  finds-same : (old : Bool) → text ≡ line_of signal old ++ more → Finds text signal old true old more
   unfolding seen_in
-  finds-same old here = record { place = at + 3; seen = rw (here, other-value, starts); rest = behind-line old here; size = refl }
+  finds-same old here =
+      let other : starts_with (line_of signal (not old)) text ≡ false = rw (here, other-value) in
+      let says : starts_with (line_of signal old) text ≡ true = rw (here, starts) in
+      record { seen = rw (other, says, behind-line old here); size = line-long old here }
 
-  finds-none : (old : Bool) → drop at text ≡ more → Finds text at signal old false old more
+  finds-none : (old : Bool) → text ≡ more → Finds text signal old false old more
   unfolding seen_in
-  finds-none old here = record { place = at; seen = rw (here, silent (not old)); rest = here; size = rw same-untold (omega arith) }
+  finds-none old here = record { seen = rw (here, silent (not old)); size = rw same-untold (omega (arith, ap length here)) }
 
-  finds : (first old new : Bool) → drop at text ≡ value_line signal (told first old new) new ++ more → Finds text at signal old first new more
+  finds : (first old new : Bool) → text ≡ value_line signal (told first old new) new ++ more → Finds text signal old first new more
   finds true true false here = finds-change true true here
   finds true false true here = finds-change true false here
   finds false true false here = finds-change false true here
@@ -190,24 +195,20 @@ module _ (clock : ℕ) (old new : Signals) where
       go true = other-signal signal other differ value (value_of other new) more
       go false = silent value
 
-  pub record FindsAll (text : List ℕ) (values : ℕ) (more : List ℕ) : Type 0 where
-    pub place : ℕ
-    pub seen : shown_in text values old (eqb clock 1) ≡ record { signals = new; behind = place }
-    pub rest : drop place text ≡ more
-    pub enough : shows_any clock old new ≡ true → values + least (eqb clock 1) ≤ place
+  pub record FindsAll (values more : List ℕ) : Type 0 where
+    pub seen : shown_in values old (eqb clock 1) ≡ record { signals = new; rest = more }
+    pub enough : shows_any clock old new ≡ true → least (eqb clock 1) + length more ≤ length values
 
-  pub finds-all : (text : List ℕ) (values : ℕ) (more : List ℕ) → ((signal : Signal) → Silent signal more) → drop values text ≡ value_lines clock old new ++ more → FindsAll text values more
+  pub finds-all : (values more : List ℕ) → ((signal : Signal) → Silent signal more) → values ≡ value_lines clock old new ++ more → FindsAll values more
   unfolding shown_in
-  finds-all text values more silent here =
-      let level : Finds text values Level old.level (eqb clock 1) new.level (line_in Enable ++ (line_in Contention ++ more)) =
-      finds text values Level _ (silent-before Level Enable refl _ (silent-before Level Contention refl more (silent Level))) _ _ _ (simp append_assoc at here) in
-      let enable : Finds text level.place Enable old.enable (eqb clock 1) new.enable (line_in Contention ++ more) =
-      finds text _ Enable _ (silent-before Enable Contention refl more (silent Enable)) _ _ _ level.rest in
-      let contention : Finds text enable.place Contention old.contention (eqb clock 1) new.contention more =
-      finds text _ Contention more (silent Contention) _ _ _ enable.rest in
+  finds-all values more silent here =
+      let level : Finds values Level old.level (eqb clock 1) new.level (line_in Enable ++ (line_in Contention ++ more)) =
+      finds values Level _ (silent-before Level Enable refl _ (silent-before Level Contention refl more (silent Level))) _ _ _ (simp append_assoc at here) in
+      let enable : Finds (line_in Enable ++ (line_in Contention ++ more)) Enable old.enable (eqb clock 1) new.enable (line_in Contention ++ more) =
+      finds _ Enable _ (silent-before Enable Contention refl more (silent Enable)) _ _ _ refl in
+      let contention : Finds (line_in Contention ++ more) Contention old.contention (eqb clock 1) new.contention more =
+      finds _ Contention more (silent Contention) _ _ _ refl in
       record {
-        place = contention.place;
         seen = rw (level.seen, enable.seen, contention.seen);
-        rest = contention.rest;
         enough = λ e. omega (arith, enough-told (eqb clock 1) _ _ _ e, level.size, enable.size, contention.size);
       }

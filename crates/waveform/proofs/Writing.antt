@@ -1,7 +1,6 @@
 -- Going over a log clock by clock: what is put so far, and what is still to come, are together its whole text.
 use Prim.Native.Nat.{ℕ, ◌+◌, ◌*◌, ◌%◌, ◌≤◌, ◌<◌}
 use mathlib.Core.Path.{◌≡◌, refl, subst, ap, ap₂, sym, ◌∙◌}
-use mathlib.Core.Bool.{Bool}
 use mathlib.Core.List.{List, [], ◌∷◌, ◌++◌, append_assoc}
 use native.Mathlib.Omega.{arith}
 use native.Mathlib.Numerals.{add-one}
@@ -58,40 +57,40 @@ module _ (log : List ℕ) where
   behind-header = refl
 
   -- the clocks are put into a text from a place on
-  module _ (writing : Bool) (text₀ : List ℕ) (at₀ : ℕ) where
+  module _ (text₀ : List ℕ) (at₀ : ℕ) where
     pub record Going (text : List ℕ) (at : ℕ) (old : Signals) (i : ℕ) : Type 0 where
       pub done : List ℕ
-      pub laid : Laid writing text₀ at₀ done at text
+      pub laid : Laid text₀ at₀ done at text
       pub whole : done ++ to_come old i ≡ all
       pub within : i ≤ records log_record log
 
     pub goes_first : Going text₀ at₀ (signals_of 0) 0
-    goes_first = record { done = []; laid = laid-nothing writing text₀ at₀; whole = refl; within = omega arith }
+    goes_first = record { done = []; laid = laid-nothing text₀ at₀; whole = refl; within = omega arith }
 
-    module _ {text : List ℕ} {at i : ℕ} {old : Signals} (room : HasRoom writing text₀ at₀ all) (now : Going text at old i) where
-      all_room : HasRoom writing text₀ at₀ (now.done ++ to_come old i)
-      all_room = subst (HasRoom writing text₀ at₀) (sym now.whole) room
+    module _ {text : List ℕ} {at i : ℕ} {old : Signals} (room : HasRoom text₀ at₀ all) (now : Going text at old i) where
+      all_room : HasRoom text₀ at₀ (now.done ++ to_come old i)
+      all_room = subst (HasRoom text₀ at₀) (sym now.whole) room
 
-      rest-room : HasRoom writing text at (to_come old i)
+      rest-room : HasRoom text at (to_come old i)
       rest-room = room-second now.done (to_come old i) all_room now.laid
 
       -- the text keeps its length
       pub same-long : length text ≡ length text₀
-      same-long = laid-length (room-first now.done (to_come old i) all_room) now.laid
+      same-long = laid-length (room-first text₀ at₀ now.done (to_come old i) all_room) now.laid
 
       module _ (here : i < records log_record log) where
         -- there is room for another clock, and then it goes on
-        pub room-here : HasRoom writing text at (clock_lines (i + 1) old (signals_at i))
-        room-here = room-first _ (to_come (signals_at i) (i + 1)) (subst (HasRoom writing text at) (clock-first old i here) rest-room)
+        pub room-here : HasRoom text at (clock_lines (i + 1) old (signals_at i))
+        room-here = room-first text at _ (to_come (signals_at i) (i + 1)) (subst (HasRoom text at) (clock-first old i here) rest-room)
 
-        pub goes_on : {r : ℕ} {text' : List ℕ} → Laid writing text at (clock_lines (i + 1) old (signals_at i)) r text' → Going text' r (signals_at i) (i + 1)
+        pub goes_on : {r : ℕ} {text' : List ℕ} → Laid text at (clock_lines (i + 1) old (signals_at i)) r text' → Going text' r (signals_at i) (i + 1)
         goes_on laid =
             let lines = clock_lines (i + 1) old (signals_at i) in
             let later = to_come (signals_at i) (i + 1) in
             let split = append_assoc now.done lines later ∙ ap (λ (rest : List ℕ). now.done ++ rest) (sym (clock-first old i here)) ∙ now.whole in
             record {
               done = now.done ++ lines;
-              laid = laid_both now.done lines (room-first (now.done ++ lines) later (subst (HasRoom writing text₀ at₀) (sym split) room)) now.laid laid;
+              laid = laid_both now.done lines (room-first text₀ at₀ (now.done ++ lines) later (subst (HasRoom text₀ at₀) (sym split) room)) now.laid laid;
               whole = split;
               within = omega arith;
             }
@@ -101,13 +100,13 @@ module _ (log : List ℕ) where
         closing = ap (to_come old) end ∙ closing-last old
 
         -- there is room for the closing time, and then all is put
-        pub room-closing : HasRoom writing text at (time_line (records log_record log + 1))
-        room-closing = subst (HasRoom writing text at) closing rest-room
+        pub room-closing : HasRoom text at (time_line (records log_record log + 1))
+        room-closing = subst (HasRoom text at) closing rest-room
 
-        pub goes-to-end : {r : ℕ} {text' : List ℕ} → Laid writing text at (time_line (records log_record log + 1)) r text' → Laid writing text₀ at₀ all r text'
+        pub goes-to-end : {r : ℕ} {text' : List ℕ} → Laid text at (time_line (records log_record log + 1)) r text' → Laid text₀ at₀ all r text'
         goes-to-end {r} {text'} laid =
-            subst (λ lines. Laid writing text₀ at₀ lines r text') now.whole
-            (laid_both now.done (to_come old i) all_room now.laid (subst (λ lines. Laid writing text at lines r text') (sym closing) laid))
+            subst (λ lines. Laid text₀ at₀ lines r text') now.whole
+            (laid_both now.done (to_come old i) all_room now.laid (subst (λ lines. Laid text at lines r text') (sym closing) laid))
 
 -- The log's checks
 module _ (log : List ℕ) where

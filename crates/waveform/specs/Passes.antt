@@ -1,91 +1,112 @@
 -- What the parts of `write_vcd` and `read_vcd` promise each other.
-use Rattle.std.specs.Prelude.{ℕ, zero, suc, ◌+◌, ◌≤◌, ◌≡◌, Bool, true, not, ◌&&◌, cond, List, [], ◌∷◌, ◌++◌, map, length, take, drop, eqb, ltb}
+use Rattle.std.specs.Prelude.{ℕ, zero, suc, ◌+◌, ◌≤◌, ◌≡◌, Bool, true, not, ◌&&◌, cond, List, [], ◌∷◌, ◌++◌, map, length, take, drop, eqb, ltb, Result, Ok, Err, Option as StdOption, Some, None}
 use Rattle.std.proofs.Math.Option.{Option, none, some}
 use Rattle.verdict.specs.Refusal.{Verdict}
 use Rattle.verdict.specs.Refusal.{Done, Refused}
-use Rattle.verdict.specs.Refusal.{wrong_text}
+use Rattle.verdict.specs.Refusal.{wrong_text, refusal_at}
+use Rattle.verdict.specs.declared.Refusal.{Refusal}
+use Rattle.verdict.specs.declared.Fault.TheVariants.{WrongText}
 use Rattle.verdict.specs.File.{records}
-use Rattle.verdict.specs.Output.{written}
 use Rattle.frame.specs.Frame.{log_record}
 use Rattle.frame.specs.Steps.{most_steps}
-use Rattle.waveform.specs.declared.lines.TimeLine.{TimeLine}
 use Rattle.waveform.specs.declared.signals.Signals.{Signals}
 use Rattle.waveform.specs.declared.signals.Signal.{Signal}
 use Rattle.waveform.specs.declared.signals.Signal.TheVariants.{Level, Enable, Contention}
-use Rattle.waveform.specs.declared.read.Seen.{Seen}
-use Rattle.waveform.specs.declared.read.Shown.{Shown}
-use Rattle.waveform.specs.declared.read.Next.{Next}
-use Rattle.waveform.specs.declared.read.Next.TheVariants.{Clock, Closing, Foreign}
+use Rattle.waveform.specs.declared.read.Seen.{Seen as SeenBy}
+use Rattle.waveform.specs.declared.read.Shown.{Shown as ShownBy}
 use Rattle.waveform.specs.Text.{time_line, starts_with}
 use Rattle.waveform.specs.Signals.{signals_of, flags_of, line_of}
-use Rattle.waveform.specs.Waveform.{header, longest, log_verdict}
+use Rattle.waveform.specs.Waveform.{header, shows, log_verdict}
 
--- Writing: where text is to be put from a place on there is room for it, and where it is only measured no text is over the longest
-pub record HasRoom (writing : Bool) (text : List ℕ) (at : ℕ) (more : List ℕ) : Type 0 where
-  pub fits : writing ≡ true → at + length more ≤ length text
-  pub short : at + length more ≤ longest
+-- Writing: there is room for text from a place on
+abbrev pub HasRoom : List ℕ → ℕ → List ℕ → Type 0
+HasRoom text at more = at + length more ≤ length text
 
 -- what is there after it was put
 abbrev pub put : ℕ → List ℕ → List ℕ → List ℕ
 put at more text = take at text ++ more ++ drop (at + length more) text
 
-pub record Laid (writing : Bool) (text : List ℕ) (at : ℕ) (more : List ℕ) (r : ℕ) (text' : List ℕ) : Type 0 where
+pub record Laid (text : List ℕ) (at : ℕ) (more : List ℕ) (r : ℕ) (text' : List ℕ) : Type 0 where
   pub behind : r ≡ at + length more
-  pub output : text' ≡ cond writing (put at more text) text
+  pub output : text' ≡ put at more text
 
--- the bytes of a time line, in an array that has room for the longest
-pub record IsTimeLine (clock : ℕ) (line : TimeLine) : Type 0 where
-  pub size : line.size ≡ length (time_line clock)
-  pub bytes : take line.size line.bytes ≡ time_line clock
+-- the signals that a clock shows
+abbrev pub shown_at : ℕ → Signals → Signals → Signals
+shown_at clock old new =
+    record {
+      level = shows clock old.level new.level;
+      enable = shows clock old.enable new.enable;
+      contention = shows clock old.contention new.contention;
+    }
 
 -- a log that the writer accepts
 abbrev pub Accepted : List ℕ → Type 0
 Accepted log = log_verdict log ≡ Done (records log_record log)
 
--- Reading: whether the text goes on with the line of a signal's value
-abbrev pub says_value : List ℕ → ℕ → Signal → Bool → Bool
-says_value text at signal value = starts_with (line_of signal value) (drop at text)
+-- Reading: the value of a signal in a clock, and the text behind its line
+pub record Seen : Type 0 where
+  pub value : Bool
+  pub rest : List ℕ
+
+-- as the code hands it back
+abbrev pub seen_by : SeenBy → Seen
+seen_by seen = record { value = seen.value; rest = seen.rest.now }
 
 -- a signal keeps its value where no line says another; at clock 1 a line that says the same counts too
-unfoldable pub seen_in : List ℕ → ℕ → Signal → Bool → Bool → Seen
-seen_in text at signal old first =
-    cond (says_value text at signal (not old)) (record { value = not old; behind = at + 3 })
-    (cond (first && says_value text at signal old) (record { value = old; behind = at + 3 })
-    (record { value = old; behind = at }))
+unfoldable pub seen_in : List ℕ → Signal → Bool → Bool → Seen
+seen_in text signal old first =
+    cond (starts_with (line_of signal (not old)) text) (record { value = not old; rest = drop 3 text })
+    (cond (first && starts_with (line_of signal old) text) (record { value = old; rest = drop 3 text })
+    (record { value = old; rest = text }))
 
--- the signals of a clock, by the lines from a place on
-unfoldable pub shown_in : List ℕ → ℕ → Signals → Bool → Shown
-shown_in text at old first =
-    let level = seen_in text at Level old.level first in
-    let enable = seen_in text level.behind Enable old.enable first in
-    let contention = seen_in text enable.behind Contention old.contention first in
+-- the signals of a clock, and the text behind its lines
+pub record Shown : Type 0 where
+  pub signals : Signals
+  pub rest : List ℕ
+
+-- as the code hands it back
+abbrev pub shown_by : ShownBy → Shown
+shown_by shown = record { signals = shown.signals; rest = shown.rest.now }
+
+-- one signal behind the other
+unfoldable pub shown_in : List ℕ → Signals → Bool → Shown
+shown_in text old first =
+    let level = seen_in text Level old.level first in
+    let enable = seen_in level.rest Enable old.enable first in
+    let contention = seen_in enable.rest Contention old.contention first in
     record {
       signals = record { level = level.value; enable = enable.value; contention = contention.value };
-      behind = contention.behind;
+      rest = contention.rest;
     }
 
 -- the lines that a time line needs behind it: all three at clock 1, later one at least
 abbrev pub least : Bool → ℕ
 least first = cond first 9 3
 
+-- what may come next in a text: another clock, the closing time, or what the writer never writes there
+pub data Next : Type 0 where
+  Clock : Shown → Next
+  Closing : Next
+  Foreign : Next
+
 -- a clock with these lines, if they are enough
-abbrev pub clock_by : ℕ → Bool → Shown → Next
-clock_by values first shown = cond (ltb shown.behind (values + least first)) Foreign (Clock shown)
+abbrev pub clock_by : List ℕ → Bool → Shown → Next
+clock_by values first shown = cond (ltb (length values) (least first + length shown.rest)) Foreign (Clock shown)
 
 -- what comes next: nothing is said of a clock in which nothing changed, and the closing time ends the text
-unfoldable pub next_in : List ℕ → ℕ → ℕ → Signals → Next
-next_in text at clock old =
+unfoldable pub next_in : List ℕ → ℕ → Signals → Next
+next_in text clock old =
     let first = eqb clock 1 in
-    let values = at + length (time_line clock) in
-    cond (starts_with (time_line clock) (drop at text))
-    (cond (eqb values (length text)) Closing (clock_by values first (shown_in text values old first)))
-    (cond first Foreign (Clock (record { signals = old; behind = at })))
+    let values = drop (length (time_line clock)) text in
+    cond (starts_with (time_line clock) text)
+    (cond (eqb (length values) 0) Closing (clock_by values first (shown_in values old first)))
+    (cond first Foreign (Clock (record { signals = old; rest = text })))
 
--- the answer where no other clock follows
-abbrev pub ending_by : Next → ℕ → Verdict
-ending_by Closing clocks = Done clocks
-ending_by (Clock shown) clocks = Refused wrong_text 0
-ending_by Foreign clocks = Refused wrong_text 0
+-- the code's result for it
+abbrev pub IsNext : Next → Result (StdOption ShownBy) Refusal → Type 0
+IsNext next (Ok (Some shown)) = next ≡ Clock (shown_by shown)
+IsNext next (Ok None) = next ≡ Closing
+IsNext next (Err refusal) = (next ≡ Foreign) × (refusal ≡ refusal_at WrongText 0)
 
 -- one clock more in front of those that are read
 abbrev pub prepend : Signals → Option (List Signals) → Option (List Signals)
@@ -97,29 +118,21 @@ clocks_by Closing later = some []
 clocks_by Foreign later = none
 clocks_by (Clock shown) later = prepend shown.signals (later shown)
 
--- the signals of the clocks from a place on, of which there are `left` at most; none where the text is foreign
-unfoldable pub clocks_from : ℕ → List ℕ → ℕ → ℕ → Signals → Option (List Signals)
-clocks_from zero text at clock old = clocks_by (next_in text at clock old) (λ shown. none)
-clocks_from (suc left) text at clock old =
-    clocks_by (next_in text at clock old) (λ shown. clocks_from left text shown.behind (suc clock) shown.signals)
+-- the signals of the clocks of a text from a clock on, of which there are `left` at most; none where the text is foreign
+unfoldable pub clocks_from : ℕ → List ℕ → ℕ → Signals → Option (List Signals)
+clocks_from zero text clock old = clocks_by (next_in text clock old) (λ shown. none)
+clocks_from (suc left) text clock old =
+    clocks_by (next_in text clock old) (λ shown. clocks_from left shown.rest (suc clock) shown.signals)
 
 unfoldable pub clocks_in : List ℕ → Option (List Signals)
-clocks_in text = cond (starts_with header text) (clocks_from most_steps text (length header) 1 (signals_of 0)) none
+clocks_in text = cond (starts_with header text) (clocks_from most_steps (drop (length header) text) 1 (signals_of 0)) none
 
--- the answer to them, and their flags
+-- the answer to them
 abbrev pub count_of : Option (List Signals) → Verdict
 count_of none = Refused wrong_text 0
 count_of (some clocks) = Done (length clocks)
 
-abbrev pub flags_of_all : Option (List Signals) → List ℕ
-flags_of_all none = []
-flags_of_all (some clocks) = map flags_of clocks
-
--- going over the whole text counts its clocks, and where their flags are to be written they are all there and have room
-pub record HasPlaces (writing : Bool) (text out : List ℕ) : Type 0 where
-  pub ours : writing ≡ true → count_of (clocks_in text) ≡ Done (length (flags_of_all (clocks_in text)))
-  pub fits : writing ≡ true → length (flags_of_all (clocks_in text)) ≤ length out
-
-pub record GoneOver (writing : Bool) (text out : List ℕ) (r : Verdict) (out' : List ℕ) : Type 0 where
+-- going over the whole text counts its clocks, and where it is ours their flags are put
+pub record GoneOver (text : List ℕ) (r : Verdict) (out' : List ℕ) : Type 0 where
   pub verdict : r ≡ count_of (clocks_in text)
-  pub output : out' ≡ cond writing (written (flags_of_all (clocks_in text)) out) out
+  pub output : (clocks : List Signals) → clocks_in text ≡ some clocks → take (length clocks) out' ≡ map flags_of clocks

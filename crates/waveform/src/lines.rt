@@ -1,8 +1,7 @@
-// The lines of the text, and how they are put behind each other, or looked for.
-ghost use Rattle.std.specs.Prelude.{◌≡◌, ◌≤◌, ◌<◌, length, drop};
-ghost use Rattle.waveform.specs.Text.{digit_of, starts_with};
+// The lines of the text that name no signal's value.
+ghost use Rattle.std.specs.Prelude.{◌≡◌, ◌<◌};
+ghost use Rattle.waveform.specs.Text.{digit_of, places, time_line};
 ghost use Rattle.waveform.specs.Waveform.{header as header_text};
-ghost use Rattle.waveform.specs.Passes.{HasRoom, Laid, IsTimeLine};
 
 use crate::Waveform;
 
@@ -21,40 +20,6 @@ pub(crate) fn header() -> [u8; Waveform::HEADER]
        $enddefinitions $end\n"
 }
 
-// Puts a line behind what is there, and answers the place behind it; where the text is only measured it stays as it is.
-pub(crate) fn put(text: &mut [u8], at: usize, line: &[u8], writing: bool) -> usize
-    requires { HasRoom writing text.old at line.now }
-    ensures { Laid writing text.old at line.now result text.new }
-{
-    let size = line.len();
-    if writing {
-        let mut i = 0;
-        while i < size {
-            text[at + i] = line[i];
-            i += 1;
-        }
-    }
-    at + size
-}
-
-// Whether the text goes on with a line.
-pub(crate) fn goes_on(text: &[u8], at: usize, line: &[u8]) -> bool
-    requires { at ≤ length text.now }
-    ensures { result ≡ starts_with line.now (drop at text.now) }
-{
-    if text.len() - at < line.len() {
-        return false;
-    }
-    let mut i = 0;
-    while i < line.len() {
-        if text[at + i] != line[i] {
-            return false;
-        }
-        i += 1;
-    }
-    true
-}
-
 fn digit(value: usize) -> u8
     requires { value < 10 }
     ensures { result ≡ digit_of value }
@@ -62,43 +27,32 @@ fn digit(value: usize) -> u8
     b'0' + value as u8
 }
 
-// A time line, of as many bytes as the clock's number asks for.
-#[derive(Clone, Copy)]
-pub(crate) struct TimeLine {
-    pub(crate) bytes: [u8; 6],
-    pub(crate) size: usize,
+// How many digits a clock's number has.
+pub(crate) fn places(clock: usize) -> usize
+    ensures { result ≡ places clock }
+{
+    match clock {
+        0..=9 => 1,
+        10..=99 => 2,
+        100..=999 => 3,
+        _ => 4,
+    }
 }
 
-impl TimeLine {
-    pub(crate) fn of(clock: usize) -> TimeLine
-        requires { clock < 10000 }
-        ensures { IsTimeLine clock result }
-    {
-        let ones = digit(clock % 10);
-        let tens = digit(clock / 10 % 10);
-        let hundreds = digit(clock / 100 % 10);
-        let thousands = digit(clock / 1000 % 10);
-        if clock < 10 {
-            return TimeLine {
-                bytes: [b'#', ones, b'\n', 0, 0, 0],
-                size: 3,
-            };
-        }
-        if clock < 100 {
-            return TimeLine {
-                bytes: [b'#', tens, ones, b'\n', 0, 0],
-                size: 4,
-            };
-        }
-        if clock < 1000 {
-            return TimeLine {
-                bytes: [b'#', hundreds, tens, ones, b'\n', 0],
-                size: 5,
-            };
-        }
-        TimeLine {
-            bytes: [b'#', thousands, hundreds, tens, ones, b'\n'],
-            size: 6,
-        }
-    }
+// The line of a time, of as many bytes as the clock's number asks for, at the end of the room that is lent for it.
+pub(crate) fn time_line(clock: usize, room: &mut [u8; 6]) -> &[u8]
+    requires { clock < 10000 }
+    ensures { result.now ≡ time_line clock }
+{
+    *room = [
+        0,
+        digit(clock / 1000 % 10),
+        digit(clock / 100 % 10),
+        digit(clock / 10 % 10),
+        digit(clock % 10),
+        b'\n',
+    ];
+    let start = 4 - places(clock);
+    room[start] = b'#';
+    &room[start..]
 }

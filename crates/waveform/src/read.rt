@@ -1,150 +1,120 @@
 // From our own text back to the flags of its clocks.
-ghost use Rattle.std.specs.Prelude.{◌≡◌, ◌≤◌, ◌<◌, length};
+ghost use Rattle.std.specs.Prelude.{◌≡◌, ◌<◌};
 ghost use Rattle.verdict.specs.Refusal.{said};
 ghost use Rattle.waveform.specs.Waveform.{ReadBack};
-ghost use Rattle.waveform.specs.Passes.{seen_in, shown_in, next_in, ending_by, HasPlaces, GoneOver};
+ghost use Rattle.waveform.specs.Passes.{seen_by, seen_in, shown_by, shown_in, IsNext, next_in, GoneOver};
 
 use crate::Waveform;
-use crate::lines::{TimeLine, goes_on, header};
+use crate::lines::{header, time_line};
 use crate::signals::{Signal, Signals};
-use verdict::{Fault, Refusal};
+use verdict::{Fault, Refusal, zeroed};
 
-// The value of a signal in a clock, and the place behind its line.
+// The value of a signal in a clock, and the text behind its line.
 #[derive(Clone, Copy)]
-pub(crate) struct Seen {
+struct Seen<'a> {
     value: bool,
-    behind: usize,
+    rest: &'a [u8],
 }
 
 // A signal keeps its value where no line says another. At clock 1 a line that says the same counts too.
-fn see(text: &[u8], at: usize, signal: Signal, old: bool, first: bool) -> Seen
-    requires { at ≤ length text.now }
-    ensures { result ≡ seen_in text.now at signal old first }
+fn see<'a>(text: &'a [u8], signal: Signal, old: bool, first: bool) -> Seen<'a>
+    ensures { seen_by result ≡ seen_in text.now signal old first }
 {
-    if goes_on(text, at, &signal.line(!old)) {
-        return Seen {
-            value: !old,
-            behind: at + Signal::LINE,
-        };
+    if let Some(rest) = text.strip_prefix(&signal.line(!old)) {
+        return Seen { value: !old, rest };
     }
     if first {
-        if goes_on(text, at, &signal.line(old)) {
-            return Seen {
-                value: old,
-                behind: at + Signal::LINE,
-            };
+        if let Some(rest) = text.strip_prefix(&signal.line(old)) {
+            return Seen { value: old, rest };
         }
     }
     Seen {
         value: old,
-        behind: at,
+        rest: text,
     }
 }
 
-// The signals of a clock, and the place behind its lines.
+// The signals of a clock, and the text behind its lines.
 #[derive(Clone, Copy)]
-pub(crate) struct Shown {
+struct Shown<'a> {
     signals: Signals,
-    behind: usize,
+    rest: &'a [u8],
 }
 
-fn see_all(text: &[u8], at: usize, old: Signals, first: bool) -> Shown
-    requires { at ≤ length text.now }
-    ensures { result ≡ shown_in text.now at old first }
+fn see_all<'a>(text: &'a [u8], old: Signals, first: bool) -> Shown<'a>
+    ensures { shown_by result ≡ shown_in text.now old first }
 {
-    let level = see(text, at, Signal::Level, old.level, first);
-    let enable = see(text, level.behind, Signal::Enable, old.enable, first);
-    let contention = see(
-        text,
-        enable.behind,
-        Signal::Contention,
-        old.contention,
-        first,
-    );
+    let level = see(text, Signal::Level, old.level, first);
+    let enable = see(level.rest, Signal::Enable, old.enable, first);
+    let contention = see(enable.rest, Signal::Contention, old.contention, first);
     Shown {
         signals: Signals {
             level: level.value,
             enable: enable.value,
             contention: contention.value,
         },
-        behind: contention.behind,
+        rest: contention.rest,
     }
 }
 
-// What comes next in the text: another clock, the closing time, or what the writer never writes there.
-#[derive(Clone, Copy)]
-pub(crate) enum Next {
-    Clock(Shown),
-    Closing,
-    Foreign,
-}
-
-// The text says nothing of a clock in which nothing changed.
-fn what_follows(text: &[u8], at: usize, clock: usize, old: Signals) -> Next
-    requires clock_bound { clock < 10000 }
-    requires at_in_bounds { at ≤ length text.now }
-    ensures { result ≡ next_in text.now at clock old }
+// What comes next in the text: another clock, or none at the closing time. Of a clock in which nothing changed the text says
+// nothing.
+fn what_follows<'a>(
+    text: &'a [u8],
+    clock: usize,
+    old: Signals,
+) -> Result<Option<Shown<'a>>, Refusal>
+    requires { clock < 10000 }
+    ensures { IsNext (next_in text.now clock old) result }
 {
     let first = clock == 1;
-    let time = TimeLine::of(clock);
-    let bytes = time.bytes;
-    if !goes_on(text, at, &bytes[..time.size]) {
+    let mut room = [0; 6];
+    let time = time_line(clock, &mut room);
+    let Some(values) = text.strip_prefix(time) else {
         if first {
-            return Next::Foreign;
+            return Err(Fault::WrongText.at(0));
         }
-        return Next::Clock(Shown {
+        return Ok(Some(Shown {
             signals: old,
-            behind: at,
-        });
-    }
-    let values = at + time.size;
-    if values == text.len() {
-        return Next::Closing;
+            rest: text,
+        }));
+    };
+    if values.is_empty() {
+        return Ok(None);
     }
     let least = if first {
         3 * Signal::LINE
     } else {
         Signal::LINE
     };
-    let shown = see_all(text, values, old, first);
-    if shown.behind < values + least {
-        return Next::Foreign;
-    }
-    Next::Clock(shown)
-}
-
-// The answer where no other clock follows these: done at the closing time.
-fn ending(next: Next, clocks: usize) -> Result<usize, Refusal>
-    ensures { said result ≡ ending_by next clocks }
-{
-    match next {
-        Next::Closing => Ok(clocks),
-        Next::Clock(_) | Next::Foreign => Err(Fault::WrongText.at(0)),
-    }
-}
-
-// Goes over the text once: counts its clocks and, where it is to write, writes their flags.
-fn go_over(text: &[u8], flags: &mut [u8], writing: bool) -> Result<usize, Refusal>
-    requires { HasPlaces writing text.now flags.old }
-    ensures { GoneOver writing text.now flags.old (said result) flags.new }
-{
-    if !goes_on(text, 0, &header()) {
+    let shown = see_all(values, old, first);
+    if values.len() < least + shown.rest.len() {
         return Err(Fault::WrongText.at(0));
     }
-    let mut at = Waveform::HEADER;
-    let mut old = Signals::of(0);
-    for i in 0..=Waveform::MOST {
-        let next = what_follows(text, at, i + 1, old);
-        let Next::Clock(shown) = next else {
-            return ending(next, i);
+    Ok(Some(shown))
+}
+
+// Reads the flags of the text's clocks, and answers how many there are: no text of ours has more of them than there are places.
+fn read_clocks(text: &[u8], flags: &mut [u8; Waveform::MOST]) -> Result<usize, Refusal>
+    ensures { GoneOver text.now (said result) flags.new }
+{
+    let Some(lines) = text.strip_prefix(&header()) else {
+        return Err(Fault::WrongText.at(0));
+    };
+    let mut rest = lines;
+    let mut old = Signals::from(0);
+    for (i, place) in flags.iter_mut().enumerate() {
+        let Some(shown) = what_follows(rest, i + 1, old)? else {
+            return Ok(i);
         };
-        if writing {
-            flags[i] = shown.signals.flags();
-        }
+        *place = u8::from(shown.signals);
         old = shown.signals;
-        at = shown.behind;
+        rest = shown.rest;
     }
-    Err(Fault::WrongText.at(0))
+    match what_follows(rest, Waveform::MOST + 1, old)? {
+        None => Ok(Waveform::MOST),
+        Some(_) => Err(Fault::WrongText.at(0)),
+    }
 }
 
 // Writes a byte for each clock of our own text to the start of `flags`. Nothing is written before the whole text is known to
@@ -152,9 +122,11 @@ fn go_over(text: &[u8], flags: &mut [u8], writing: bool) -> Result<usize, Refusa
 pub fn read_vcd(text: &[u8], flags: &mut [u8]) -> Result<usize, Refusal>
     ensures { ReadBack text.now flags.old (said result) flags.new }
 {
-    let count = go_over(text, flags, false)?;
+    let mut room: [u8; Waveform::MOST] = zeroed();
+    let count = read_clocks(text, &mut room)?;
     if flags.len() < count {
         return Err(Fault::NoRoom.at(0));
     }
-    go_over(text, flags, true)
+    flags[..count].copy_from_slice(&room[..count]);
+    Ok(count)
 }

@@ -1,98 +1,143 @@
 // From a log to its text.
-ghost use Rattle.std.specs.Prelude.{◌<◌};
+ghost use Rattle.std.specs.Prelude.{◌≡◌, ◌<◌, length};
 ghost use Rattle.verdict.specs.Refusal.{said};
 ghost use Rattle.waveform.specs.Text.{time_line};
 ghost use Rattle.waveform.specs.Signals.{value_line};
 ghost use Rattle.waveform.specs.Waveform.{clock_lines, waveform, Written};
-ghost use Rattle.waveform.specs.Passes.{HasRoom, Laid, Accepted};
+ghost use Rattle.waveform.specs.Passes.{HasRoom, Laid, Accepted, shown_at};
 
 use crate::Waveform;
-use crate::lines::{TimeLine, header, put};
+use crate::lines::{header, places, time_line};
 use crate::signals::{Signal, Signals};
 use frame::Frame;
 use verdict::{Fault, Refusal};
 
-// The line of a time, of four digits at most.
-fn put_time(text: &mut [u8], at: usize, clock: usize, writing: bool) -> usize
-    requires clock_bound { clock < 10000 }
-    requires has_room { HasRoom writing text.old at (time_line clock) }
-    ensures { Laid writing text.old at (time_line clock) result text.new }
-{
-    let time = TimeLine::of(clock);
-    let bytes = time.bytes;
-    put(text, at, &bytes[..time.size], writing)
+// A text to write to, and the place behind what is put there so far.
+#[derive(Drop)]
+struct Output<'a> {
+    text: &'a mut [u8],
+    at: usize,
 }
 
-// The line of a signal, where the clock shows it.
-fn put_value(
-    text: &mut [u8],
-    at: usize,
-    signal: Signal,
-    shown: bool,
-    value: bool,
-    writing: bool,
-) -> usize
-    requires { HasRoom writing text.old at (value_line signal shown value) }
-    ensures { Laid writing text.old at (value_line signal shown value) result text.new }
-{
-    if shown {
-        return put(text, at, &signal.line(value), writing);
+impl Output<'_> {
+    // Puts a line behind what is there.
+    fn put(&mut self, line: &[u8])
+        requires { HasRoom self.old.text.now self.old.at line.now }
+        ensures same_text { self.new.text.ghost_name ≡ self.old.text.ghost_name }
+        ensures laid { Laid self.old.text.now self.old.at line.now self.new.at self.new.text.now }
+    {
+        let behind = self.at + line.len();
+        self.text[self.at..behind].copy_from_slice(line);
+        self.at = behind;
     }
-    at
+
+    // The line of a time, of four digits at most.
+    fn put_time(&mut self, clock: usize)
+        requires clock_bound { clock < 10000 }
+        requires has_room { HasRoom self.old.text.now self.old.at (time_line clock) }
+        ensures same_text { self.new.text.ghost_name ≡ self.old.text.ghost_name }
+        ensures laid { Laid self.old.text.now self.old.at (time_line clock) self.new.at self.new.text.now }
+    {
+        let mut room = [0; 6];
+        self.put(time_line(clock, &mut room));
+    }
+
+    // The line of a signal, where the clock shows it.
+    fn put_value(&mut self, signal: Signal, shown: bool, value: bool)
+        requires { HasRoom self.old.text.now self.old.at (value_line signal shown value) }
+        ensures same_text { self.new.text.ghost_name ≡ self.old.text.ghost_name }
+        ensures laid { Laid self.old.text.now self.old.at (value_line signal shown value) self.new.at self.new.text.now }
+    {
+        if shown {
+            self.put(&signal.line(value));
+        }
+    }
+
+    // The lines of a clock; no line where it shows no signal.
+    fn put_clock(&mut self, clock: usize, old: Signals, new: Signals)
+        requires clock_bound { clock < 10000 }
+        requires has_room { HasRoom self.old.text.now self.old.at (clock_lines clock old new) }
+        ensures same_text { self.new.text.ghost_name ≡ self.old.text.ghost_name }
+        ensures laid { Laid self.old.text.now self.old.at (clock_lines clock old new) self.new.at self.new.text.now }
+    {
+        let shown = shown_at(clock, old, new);
+        if shown.any() {
+            self.put_time(clock);
+            self.put_value(Signal::Level, shown.level, new.level);
+            self.put_value(Signal::Enable, shown.enable, new.enable);
+            self.put_value(Signal::Contention, shown.contention, new.contention);
+        }
+    }
+
+    // The text of a log.
+    fn put_all(&mut self, log: &[u8])
+        requires accepted { Accepted log.now }
+        requires has_room { HasRoom self.old.text.now self.old.at (waveform log.now) }
+        ensures same_text { self.new.text.ghost_name ≡ self.old.text.ghost_name }
+        ensures laid { Laid self.old.text.now self.old.at (waveform log.now) self.new.at self.new.text.now }
+    {
+        self.put(&header());
+        let mut old = Signals::from(0);
+        let count = log.len() / Frame::LOG_RECORD;
+        for i in 0..count {
+            let new = Signals::from(log[i * Frame::LOG_RECORD]);
+            self.put_clock(i + 1, old, new);
+            old = new;
+        }
+        self.put_time(count + 1);
+    }
 }
 
-// The lines of a clock: all signals at clock 1, later those that change; no line where none does.
-fn put_clock(
-    text: &mut [u8],
-    at: usize,
-    clock: usize,
-    old: Signals,
-    new: Signals,
-    writing: bool,
-) -> usize
-    requires clock_bound { clock < 10000 }
-    requires has_room { HasRoom writing text.old at (clock_lines clock old new) }
-    ensures { Laid writing text.old at (clock_lines clock old new) result text.new }
+// The signals that a clock shows: all at clock 1, later those that change.
+fn shown_at(clock: usize, old: Signals, new: Signals) -> Signals
+    ensures { result ≡ shown_at clock old new }
 {
     let first = clock == 1;
-    let level = first | (old.level != new.level);
-    let enable = first | (old.enable != new.enable);
-    let contention = first | (old.contention != new.contention);
-    if !(level | enable | contention) {
-        return at;
+    Signals {
+        level: first | (old.level != new.level),
+        enable: first | (old.enable != new.enable),
+        contention: first | (old.contention != new.contention),
     }
-    let values = put_time(text, at, clock, writing);
-    let behind = put_value(text, values, Signal::Level, level, new.level, writing);
-    let behind = put_value(text, behind, Signal::Enable, enable, new.enable, writing);
-    put_value(
-        text,
-        behind,
-        Signal::Contention,
-        contention,
-        new.contention,
-        writing,
-    )
 }
 
-// Goes over a log once: measures its text and, where it is to write, writes it.
-fn lay(log: &[u8], text: &mut [u8], writing: bool) -> usize
-    requires accepted { Accepted log.now }
-    requires has_room { HasRoom writing text.old 0 (waveform log.now) }
-    ensures { Laid writing text.old 0 (waveform log.now) result text.new }
+// How many bytes the line of a time takes.
+fn time_size(clock: usize) -> usize
+    ensures { result ≡ length (time_line clock) }
 {
+    2 + places(clock)
+}
+
+// How many bytes the lines of a clock take.
+fn clock_size(clock: usize, old: Signals, new: Signals) -> usize
+    ensures { result ≡ length (clock_lines clock old new) }
+{
+    let shown = shown_at(clock, old, new);
+    if shown.any() {
+        let values = shown.level as usize + shown.enable as usize + shown.contention as usize;
+        time_size(clock) + values * Signal::LINE
+    } else {
+        0
+    }
+}
+
+// How many bytes the text of a log takes.
+fn text_size(log: &[u8]) -> usize
+    requires { Accepted log.now }
+    ensures { result ≡ length (waveform log.now) }
+{
+    let mut size = Waveform::HEADER;
+    let mut old = Signals::from(0);
     let count = log.len() / Frame::LOG_RECORD;
-    let mut at = put(text, 0, &header(), writing);
-    let mut old = Signals::of(0);
     for i in 0..count {
-        let new = Signals::of(log[i * Frame::LOG_RECORD]);
-        at = put_clock(text, at, i + 1, old, new, writing);
+        let new = Signals::from(log[i * Frame::LOG_RECORD]);
+        size += clock_size(i + 1, old, new);
         old = new;
     }
-    put_time(text, at, count + 1, writing)
+    size + time_size(count + 1)
 }
 
 // Writes the text of a log to the start of `text`. Nothing is written before it is known that all of it fits: by the longest
-// that there is, or else by a pass that measures it.
+// that there is, or else by its own size.
 pub fn write_vcd(log: &[u8], text: &mut [u8]) -> Result<usize, Refusal>
     ensures { Written log.now text.old (said result) text.new }
 {
@@ -103,10 +148,10 @@ pub fn write_vcd(log: &[u8], text: &mut [u8]) -> Result<usize, Refusal>
         return Err(Fault::TooMany.at(0));
     }
     let room = text.len();
-    if room < Waveform::LONGEST {
-        if room < lay(log, text, false) {
-            return Err(Fault::NoRoom.at(0));
-        }
+    if room < Waveform::LONGEST && room < text_size(log) {
+        return Err(Fault::NoRoom.at(0));
     }
-    Ok(lay(log, text, true))
+    let mut out = Output { text, at: 0 };
+    out.put_all(log);
+    Ok(out.at)
 }

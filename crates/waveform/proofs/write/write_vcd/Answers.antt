@@ -1,77 +1,65 @@
--- The log's checks come first. The longest text shows that it fits, or else a pass measures it, and only then one writes it.
+-- The log's checks come first. The longest text shows that it fits, or else its size, and only then it is written.
 use Prim.Native.Nat.{ℕ, ◌≤◌}
 use mathlib.Core.Path.{◌≡◌, refl, ap, sym, ◌∙◌}
+use mathlib.Core.List.{List}
 use native.Mathlib.Omega.{arith}
 use lib.ListN.{length}
+use borrow.Author.Rules.{rules}
 use borrow.Author.Tests.{lt-ltb, le-ltb}
 use Rattle.verdict.specs.Refusal.{Done}
-use Rattle.verdict.specs.Output.{written}
 use Rattle.verdict.proofs.Outputs.{refuses, succeeds}
-use Rattle.waveform.specs.Waveform.{waveform, time_bytes}
+use Rattle.waveform.specs.Waveform.{waveform, Written, time_bytes}
+use Rattle.waveform.specs.Passes.{Accepted, Laid}
 use Rattle.waveform.proofs.Puts.{put_first}
 use Rattle.waveform.proofs.Writing.{not-whole, too_long, log-accepted}
 use Rattle.waveform.proofs.Longest.{never-longer}
 use Rattle.waveform.proofs.write.write_vcd.Goals as goal
-use Rattle.waveform.proofs.write.write_vcd.Goals.{then-room-lt-LONGEST+else-room-lay, else-room-lt-LONGEST}
+use Rattle.waveform.proofs.write.write_vcd.Goals.{else-room-lt-LONGEST-via-then-room-lt-LONGEST+else-room-text_size, else-room-lt-LONGEST-via-else-room-lt-LONGEST}
+
+-- the text as it was put
+put_whole : (log text : List ℕ) (r : ℕ) (put text' : List ℕ) → Accepted log → length (waveform log) ≤ length text → Laid text 0 (waveform log) r put → text' ≡ put → Written log text (Done r) text'
+put_whole log text r put text' good fits laid same =
+    let enough = le-ltb (length text) (length (waveform log)) fits in
+    let size : r ≡ length (waveform log) = omega (arith, laid.behind) in
+    succeeds (rw (good, enough) (ap Done (sym size))) (same ∙ laid.output ∙ put_first (waveform log) text)
 
 pub returns-then-log-ne0 : goal.returns-then-log-ne0
-returns-then-log-ne0 c =
-    let args = c.args in
-    refuses (waveform args.log.now) args.text.now (rw (not-whole args.log.now c.if-log-ne0.true)) refl
+returns-then-log-ne0 c = rw c.at.ensures (refuses (waveform c.args.log.now) c.args.text.now (rw (not-whole c.args.log.now c.if-log-ne0.true)) refl)
 
 pub returns-then-log-gt-MOST : goal.returns-then-log-gt-MOST
 returns-then-log-gt-MOST c =
-    let args = c.args in
-    refuses (waveform args.log.now) args.text.now (rw (too_long args.log.now c.if-log-ne0.false c.if-log-gt-MOST.true)) refl
+    rw c.at-then-log-gt-MOST.ensures (refuses (waveform c.args.log.now) c.args.text.now (rw (too_long c.args.log.now c.if-log-ne0.false c.if-log-gt-MOST.true)) refl)
 
-pub lay-requires-clause-accepted : goal.lay-requires-clause-accepted
-lay-requires-clause-accepted c = log-accepted c.args.log.now c.if-log-ne0.false c.if-log-gt-MOST.false
+pub text_size-requires : goal.text_size-requires
+text_size-requires c = log-accepted c.args.log.now c.if-log-ne0.false c.if-log-gt-MOST.false
 
-pub lay-requires-clause-has_room : goal.lay-requires-clause-has_room
-lay-requires-clause-has_room c =
-    let short = never-longer c.args.log.now (log-accepted c.args.log.now c.if-log-ne0.false c.if-log-gt-MOST.false) in
-    record { fits = λ writes. absurd (let z : ◌≡◌ {A = ℕ} 0 1 = cc in omega arith); short = omega (arith, short) }
+pub returns-then-room-text_size : goal.returns-then-room-text_size
+returns-then-room-text_size c =
+    let log = c.args.log.now in
+    let good = log-accepted log c.if-log-ne0.false c.if-log-gt-MOST.false in
+    let short = lt-ltb (length c.args.text.now) (length (waveform log)) (omega (arith, c.if-room-text_size.true, c.text_size.ensures)) in
+    rw c.at-then-room-text_size.ensures (refuses (waveform log) c.args.text.now (rw (good, short)) refl)
 
-pub returns-then-room-lay : goal.returns-then-room-lay
-returns-then-room-lay c =
-    let args = c.args in
-    let laid = c.lay.ensures in
-    let good = log-accepted args.log.now c.if-log-ne0.false c.if-log-gt-MOST.false in
-    let short = lt-ltb (length args.text.now) (length (waveform args.log.now)) (omega (arith, c.if-room-lay.true, laid.behind)) in
-    rw laid.output (refuses (waveform args.log.now) args.text.now (rw (good, short)) refl)
+pub put_all-requires-clause-accepted : goal.put_all-requires-clause-accepted
+put_all-requires-clause-accepted c = log-accepted c.args.log.now c.if-log-ne0.false c.if-log-gt-MOST.false
 
-pub lay-requires-2-clause-accepted : goal.lay-requires-2-clause-accepted
-lay-requires-2-clause-accepted c = log-accepted c.args.log.now c.if-log-ne0.false c.if-log-gt-MOST.false
-
-pub lay-requires-2-clause-has_room : goal.lay-requires-2-clause-has_room
+pub put_all-requires-clause-has_room : goal.put_all-requires-clause-has_room
 unfolding time_bytes
-lay-requires-2-clause-has_room c =
-    let args = c.args in
-    let short = never-longer args.log.now (log-accepted args.log.now c.if-log-ne0.false c.if-log-gt-MOST.false) in
-    let same : c.if-room-lt-LONGEST.text ≡ args.text.now =
-    elim c.if-room-lt-LONGEST.branch [ then-room-lt-LONGEST+else-room-lay w ↦ w.text-is ∙ w.lay.ensures.output | else-room-lt-LONGEST w ↦ w.text-is ] in
-    let fits : length (waveform args.log.now) ≤ length args.text.now =
-    elim c.if-room-lt-LONGEST.branch [
-      | then-room-lt-LONGEST+else-room-lay w ↦ omega (arith, w.if-room-lay.false, w.lay.ensures.behind)
-      | else-room-lt-LONGEST w ↦ omega (arith, w.if-room-lt-LONGEST.false, short)
-    ] in
-    record { fits = λ writes. omega (arith, fits, ap length same); short = omega (arith, short) }
+put_all-requires-clause-has_room c =
+    let short = never-longer c.args.log.now (log-accepted c.args.log.now c.if-log-ne0.false c.if-log-gt-MOST.false) in
+    elim c.else-room-lt-LONGEST.branch [
+      | else-room-lt-LONGEST-via-then-room-lt-LONGEST+else-room-text_size w ↦ omega (arith, w.if-room-text_size.false, w.text_size.ensures)
+      | else-room-lt-LONGEST-via-else-room-lt-LONGEST w ↦ omega (arith, w.if-room-lt-LONGEST.false, short)
+    ]
 
 pub returns : goal.returns
 unfolding time_bytes
 returns c =
-    let args = c.args in
-    let text = waveform args.log.now in
-    let laid = c.lay-2.ensures in
-    let good = log-accepted args.log.now c.if-log-ne0.false c.if-log-gt-MOST.false in
-    let short = never-longer args.log.now good in
-    let same : c.if-room-lt-LONGEST.text ≡ args.text.now =
-    elim c.if-room-lt-LONGEST.branch [ then-room-lt-LONGEST+else-room-lay w ↦ w.text-is ∙ w.lay.ensures.output | else-room-lt-LONGEST w ↦ w.text-is ] in
-    let room : length text ≤ length args.text.now =
-    elim c.if-room-lt-LONGEST.branch [
-      | then-room-lt-LONGEST+else-room-lay w ↦ omega (arith, w.if-room-lay.false, w.lay.ensures.behind)
-      | else-room-lt-LONGEST w ↦ omega (arith, w.if-room-lt-LONGEST.false, short)
+    let good = log-accepted c.args.log.now c.if-log-ne0.false c.if-log-gt-MOST.false in
+    let short = never-longer c.args.log.now good in
+    let fits : length (waveform c.args.log.now) ≤ length c.args.text.now =
+    elim c.else-room-lt-LONGEST.branch [
+      | else-room-lt-LONGEST-via-then-room-lt-LONGEST+else-room-text_size w ↦ omega (arith, w.if-room-text_size.false, w.text_size.ensures)
+      | else-room-lt-LONGEST-via-else-room-lt-LONGEST w ↦ omega (arith, w.if-room-lt-LONGEST.false, short)
     ] in
-    let fits = le-ltb (length args.text.now) (length text) room in
-    let size : c.lay-2.result ≡ length text = omega (arith, laid.behind) in
-    succeeds (rw (good, fits) (ap Done (sym size))) (laid.output ∙ put_first text c.if-room-lt-LONGEST.text ∙ ap (written text) same)
+    put_whole c.args.log.now c.args.text.now _ _ _ good fits c.put_all.ensures.laid (search rules)

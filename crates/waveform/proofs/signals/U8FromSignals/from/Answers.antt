@@ -7,7 +7,7 @@ use mir.Val.{bool_byte}
 use Rattle.wire.specs.Wire.{as_bit}
 use Rattle.wire.proofs.Levels.{bit-small}
 use Rattle.waveform.specs.Signals.{flags_of}
-use Rattle.waveform.proofs.signals.Signals.flags.Goals as goal
+use Rattle.waveform.proofs.signals.U8FromSignals.from.Goals as goal
 
 -- a bool as a number
 as-bit : (b : Bool) → (bool_byte b ≡ as_bit b) × (as_bit b ≤ 1)
@@ -17,5 +17,5 @@ as-bit false = (refl, bit-small false)
 pub returns : goal.returns
 unfolding flags_of
 returns c =
-    let signals = c.args.self in
+    let signals = c.args.signals in
     omega (arith, as-bit signals.level, as-bit signals.enable, as-bit signals.contention)

@@ -3,7 +3,7 @@ use Prim.Native.Nat.{◌/◌, ◌%◌, ◌^◌}
 use mathlib.Core.Path.{◌≡◌}
 use native.Mathlib.Omega.{arith}
 use Rattle.waveform.specs.Signals.{signals_of}
-use Rattle.waveform.proofs.signals.Signals.of.Goals as goal
+use Rattle.waveform.proofs.signals.SignalsFromU8.from.Goals as goal
 
 pub returns : goal.returns
 unfolding signals_of
