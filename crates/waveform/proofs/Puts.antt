@@ -1,12 +1,13 @@
 -- Text is put piece by piece: what is put behind a piece makes one longer piece with it.
 use Prim.Native.Nat.{ℕ, ◌+◌, ◌≤◌}
-use mathlib.Core.Path.{◌≡◌, ap, ap₂, sym, ◌∙◌}
+use mathlib.Core.Path.{◌≡◌, refl, ap, ap₂, sym, ◌∙◌}
 use mathlib.Core.List.{List, [], ◌++◌, append_assoc}
 use native.Mathlib.Omega.{arith}
 use lib.ListN.{length, take, drop, length-append}
 use lib.Seq.{length-take-le, take_at, drop_at, drop-drop, paste-zero, length-paste, take-length}
 use Rattle.verdict.specs.Output.{written}
-use Rattle.waveform.specs.Passes.{HasRoom, put, Laid}
+use Rattle.waveform.specs.declared.write.Output.{Output}
+use Rattle.waveform.specs.Passes.{HasRoom, put, Puts}
 
 -- what is put at the start is written
 pub put_first : (more text : List ℕ) → put 0 more text ≡ written more text
@@ -32,32 +33,32 @@ module _ (text : List ℕ) (at : ℕ) where
       ∙ ap (λ (front : List ℕ). front ++ drop (at + length (first ++ second)) text) (append_assoc (take at text) first second)
 
 -- room for two pieces is room for the first
-pub room-first : (text : List ℕ) (at : ℕ) (first second : List ℕ) → HasRoom text at (first ++ second) → HasRoom text at first
-room-first text at first second room = omega (arith, room, length-append first second)
+pub room-first : (out : Output) (first second : List ℕ) → HasRoom out (first ++ second) → HasRoom out first
+room-first out first second room = omega (arith, room, length-append first second)
 
 -- where nothing is put nothing changes
-pub laid-nothing : (text : List ℕ) (at : ℕ) → Laid text at [] at text
-laid-nothing text at = record { behind = omega arith; output = sym (put-nothing text at) }
+pub puts-nothing : (out : Output) → Puts out [] out
+puts-nothing out = record { same_text = refl; behind = omega arith; output = sym (put-nothing out.text.now out.at) }
 
-module _ {text : List ℕ} {at : ℕ} where
+module _ {out out' : Output} where
   -- the text keeps its length
-  pub laid-length : {more : List ℕ} {r : ℕ} {text' : List ℕ} → HasRoom text at more → Laid text at more r text' → length text' ≡ length text
-  laid-length {more} room laid = ap length laid.output ∙ length-put text at more room
+  puts-length : {more : List ℕ} → HasRoom out more → Puts out more out' → length out'.text.now ≡ length out.text.now
+  puts-length {more} room puts = ap length puts.output ∙ length-put out.text.now out.at more room
 
-  -- and then for the second
-
-  pub room-second : (first second : List ℕ) {r : ℕ} {text' : List ℕ} → HasRoom text at (first ++ second) → Laid text at first r text' → HasRoom text' r second
-  room-second first second room laid =
-      omega (arith, room, length-append first second, laid.behind, laid-length (room-first text at first second room) laid)
+  -- and then there is room for the second
+  pub room-second : (first second : List ℕ) → HasRoom out (first ++ second) → Puts out first out' → HasRoom out' second
+  room-second first second room puts =
+      omega (arith, room, length-append first second, puts.behind, puts-length (room-first out first second room) puts)
 
   -- two pieces that are put are put as one
-  pub laid_both : (first second : List ℕ) {r s : ℕ} {text' text'' : List ℕ} → HasRoom text at (first ++ second) → Laid text at first r text' → Laid text' r second s text'' → Laid text at (first ++ second) s text''
-  laid_both first second {text' = text'} room one two =
+  pub puts_both : (first second : List ℕ) {out'' : Output} → HasRoom out (first ++ second) → Puts out first out' → Puts out' second out'' → Puts out (first ++ second) out''
+  puts_both first second room one two =
       record {
+        same_text = two.same_text ∙ one.same_text;
         behind = omega (arith, one.behind, two.behind, length-append first second);
         output =
             two.output
-            ∙ ap (λ place. put place second text') one.behind
-            ∙ ap (put (at + length first) second) one.output
-            ∙ put-behind text at first second (omega (arith, room));
+            ∙ ap (λ place. put place second out'.text.now) one.behind
+            ∙ ap (put (out.at + length first) second) one.output
+            ∙ put-behind out.text.now out.at first second (omega (arith, room));
       }

@@ -14,12 +14,13 @@ use Rattle.verdict.proofs.Lists.{length-tabulate, get_or-tabulate}
 use Rattle.verdict.proofs.Checks.{accepted, accepts}
 use Rattle.frame.specs.Frame.{log_record}
 use Rattle.frame.specs.Steps.{most_steps}
+use Rattle.waveform.specs.declared.write.Output.{Output}
 use Rattle.waveform.specs.declared.signals.Signals.{Signals}
 use Rattle.waveform.specs.Text.{time_line}
 use Rattle.waveform.specs.Signals.{signals_of}
 use Rattle.waveform.specs.Waveform.{header, clock_lines, lines_from, text_of, signals_in, waveform, log_verdict}
-use Rattle.waveform.specs.Passes.{HasRoom, Laid, Accepted}
-use Rattle.waveform.proofs.Puts.{laid-nothing, laid-length, room-first, room-second, laid_both}
+use Rattle.waveform.specs.Passes.{HasRoom, Puts, Accepted}
+use Rattle.waveform.proofs.Puts.{puts-nothing, room-first, room-second, puts_both}
 
 module _ (log : List ℕ) where
   -- the signals of clock i + 1
@@ -56,41 +57,37 @@ module _ (log : List ℕ) where
   unfolding waveform text_of
   behind-header = refl
 
-  -- the clocks are put into a text from a place on
-  module _ (text₀ : List ℕ) (at₀ : ℕ) where
-    pub record Going (text : List ℕ) (at : ℕ) (old : Signals) (i : ℕ) : Type 0 where
+  -- the clocks are put into an output
+  module _ (out₀ : Output) where
+    pub record Going (out : Output) (old : Signals) (i : ℕ) : Type 0 where
       pub done : List ℕ
-      pub laid : Laid text₀ at₀ done at text
+      pub puts : Puts out₀ done out
       pub whole : done ++ to_come old i ≡ all
       pub within : i ≤ records log_record log
 
-    pub goes_first : Going text₀ at₀ (signals_of 0) 0
-    goes_first = record { done = []; laid = laid-nothing text₀ at₀; whole = refl; within = omega arith }
+    pub goes_first : Going out₀ (signals_of 0) 0
+    goes_first = record { done = []; puts = puts-nothing out₀; whole = refl; within = omega arith }
 
-    module _ {text : List ℕ} {at i : ℕ} {old : Signals} (room : HasRoom text₀ at₀ all) (now : Going text at old i) where
-      all_room : HasRoom text₀ at₀ (now.done ++ to_come old i)
-      all_room = subst (HasRoom text₀ at₀) (sym now.whole) room
+    module _ {out : Output} {i : ℕ} {old : Signals} (room : HasRoom out₀ all) (now : Going out old i) where
+      all_room : HasRoom out₀ (now.done ++ to_come old i)
+      all_room = subst (HasRoom out₀) (sym now.whole) room
 
-      rest-room : HasRoom text at (to_come old i)
-      rest-room = room-second now.done (to_come old i) all_room now.laid
-
-      -- the text keeps its length
-      pub same-long : length text ≡ length text₀
-      same-long = laid-length (room-first text₀ at₀ now.done (to_come old i) all_room) now.laid
+      rest-room : HasRoom out (to_come old i)
+      rest-room = room-second now.done (to_come old i) all_room now.puts
 
       module _ (here : i < records log_record log) where
         -- there is room for another clock, and then it goes on
-        pub room-here : HasRoom text at (clock_lines (i + 1) old (signals_at i))
-        room-here = room-first text at _ (to_come (signals_at i) (i + 1)) (subst (HasRoom text at) (clock-first old i here) rest-room)
+        pub room-here : HasRoom out (clock_lines (i + 1) old (signals_at i))
+        room-here = room-first out _ (to_come (signals_at i) (i + 1)) (subst (HasRoom out) (clock-first old i here) rest-room)
 
-        pub goes_on : {r : ℕ} {text' : List ℕ} → Laid text at (clock_lines (i + 1) old (signals_at i)) r text' → Going text' r (signals_at i) (i + 1)
-        goes_on laid =
+        pub goes_on : {out' : Output} → Puts out (clock_lines (i + 1) old (signals_at i)) out' → Going out' (signals_at i) (i + 1)
+        goes_on puts =
             let lines = clock_lines (i + 1) old (signals_at i) in
             let later = to_come (signals_at i) (i + 1) in
             let split = append_assoc now.done lines later ∙ ap (λ (rest : List ℕ). now.done ++ rest) (sym (clock-first old i here)) ∙ now.whole in
             record {
               done = now.done ++ lines;
-              laid = laid_both now.done lines (room-first text₀ at₀ (now.done ++ lines) later (subst (HasRoom text₀ at₀) (sym split) room)) now.laid laid;
+              puts = puts_both now.done lines (room-first out₀ (now.done ++ lines) later (subst (HasRoom out₀) (sym split) room)) now.puts puts;
               whole = split;
               within = omega arith;
             }
@@ -100,13 +97,13 @@ module _ (log : List ℕ) where
         closing = ap (to_come old) end ∙ closing-last old
 
         -- there is room for the closing time, and then all is put
-        pub room-closing : HasRoom text at (time_line (records log_record log + 1))
-        room-closing = subst (HasRoom text at) closing rest-room
+        pub room-closing : HasRoom out (time_line (records log_record log + 1))
+        room-closing = subst (HasRoom out) closing rest-room
 
-        pub goes-to-end : {r : ℕ} {text' : List ℕ} → Laid text at (time_line (records log_record log + 1)) r text' → Laid text₀ at₀ all r text'
-        goes-to-end {r} {text'} laid =
-            subst (λ lines. Laid text₀ at₀ lines r text') now.whole
-            (laid_both now.done (to_come old i) all_room now.laid (subst (λ lines. Laid text at lines r text') (sym closing) laid))
+        pub goes-to-end : {out' : Output} → Puts out (time_line (records log_record log + 1)) out' → Puts out₀ all out'
+        goes-to-end {out'} puts =
+            subst (λ lines. Puts out₀ lines out') now.whole
+            (puts_both now.done (to_come old i) all_room now.puts (subst (λ lines. Puts out lines out') (sym closing) puts))
 
 -- The log's checks
 module _ (log : List ℕ) where

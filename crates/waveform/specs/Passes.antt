@@ -12,23 +12,25 @@ use Rattle.frame.specs.Steps.{most_steps}
 use Rattle.waveform.specs.declared.signals.Signals.{Signals}
 use Rattle.waveform.specs.declared.signals.Signal.{Signal}
 use Rattle.waveform.specs.declared.signals.Signal.TheVariants.{Level, Enable, Contention}
+use Rattle.waveform.specs.declared.write.Output.{Output}
 use Rattle.waveform.specs.declared.read.Seen.{Seen as SeenBy}
 use Rattle.waveform.specs.declared.read.Shown.{Shown as ShownBy}
 use Rattle.waveform.specs.Text.{time_line, starts_with}
 use Rattle.waveform.specs.Signals.{signals_of, flags_of, line_of}
 use Rattle.waveform.specs.Waveform.{header, shows, log_verdict}
 
--- Writing: there is room for text from a place on
-abbrev pub HasRoom : List ℕ → ℕ → List ℕ → Type 0
-HasRoom text at more = at + length more ≤ length text
+-- Writing: an output has room for more behind what is there
+abbrev pub HasRoom : Output → List ℕ → Type 0
+HasRoom out more = out.at + length more ≤ length out.text.now
 
 -- what is there after it was put
 abbrev pub put : ℕ → List ℕ → List ℕ → List ℕ
 put at more text = take at text ++ more ++ drop (at + length more) text
 
-pub record Laid (text : List ℕ) (at : ℕ) (more : List ℕ) (r : ℕ) (text' : List ℕ) : Type 0 where
-  pub behind : r ≡ at + length more
-  pub output : text' ≡ put at more text
+pub record Puts (out : Output) (more : List ℕ) (out' : Output) : Type 0 where
+  pub same_text : out'.text.ghost_name ≡ out.text.ghost_name
+  pub behind : out'.at ≡ out.at + length more
+  pub output : out'.text.now ≡ put out.at more out.text.now
 
 -- the signals that a clock shows
 abbrev pub shown_at : ℕ → Signals → Signals → Signals

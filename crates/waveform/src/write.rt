@@ -4,7 +4,7 @@ ghost use Rattle.verdict.specs.Refusal.{said};
 ghost use Rattle.waveform.specs.Text.{time_line};
 ghost use Rattle.waveform.specs.Signals.{value_line};
 ghost use Rattle.waveform.specs.Waveform.{clock_lines, waveform, Written};
-ghost use Rattle.waveform.specs.Passes.{HasRoom, Laid, Accepted, shown_at};
+ghost use Rattle.waveform.specs.Passes.{HasRoom, Puts, Accepted, shown_at};
 
 use crate::Waveform;
 use crate::lines::{header, places, time_line};
@@ -22,9 +22,8 @@ struct Output<'a> {
 impl Output<'_> {
     // Puts a line behind what is there.
     fn put(&mut self, line: &[u8])
-        requires { HasRoom self.old.text.now self.old.at line.now }
-        ensures same_text { self.new.text.ghost_name ≡ self.old.text.ghost_name }
-        ensures laid { Laid self.old.text.now self.old.at line.now self.new.at self.new.text.now }
+        requires { HasRoom self.old line.now }
+        ensures { Puts self.old line.now self.new }
     {
         let behind = self.at + line.len();
         self.text[self.at..behind].copy_from_slice(line);
@@ -34,9 +33,8 @@ impl Output<'_> {
     // The line of a time, of four digits at most.
     fn put_time(&mut self, clock: usize)
         requires clock_bound { clock < 10000 }
-        requires has_room { HasRoom self.old.text.now self.old.at (time_line clock) }
-        ensures same_text { self.new.text.ghost_name ≡ self.old.text.ghost_name }
-        ensures laid { Laid self.old.text.now self.old.at (time_line clock) self.new.at self.new.text.now }
+        requires has_room { HasRoom self.old (time_line clock) }
+        ensures { Puts self.old (time_line clock) self.new }
     {
         let mut room = [0; 6];
         self.put(time_line(clock, &mut room));
@@ -44,9 +42,8 @@ impl Output<'_> {
 
     // The line of a signal, where the clock shows it.
     fn put_value(&mut self, signal: Signal, shown: bool, value: bool)
-        requires { HasRoom self.old.text.now self.old.at (value_line signal shown value) }
-        ensures same_text { self.new.text.ghost_name ≡ self.old.text.ghost_name }
-        ensures laid { Laid self.old.text.now self.old.at (value_line signal shown value) self.new.at self.new.text.now }
+        requires { HasRoom self.old (value_line signal shown value) }
+        ensures { Puts self.old (value_line signal shown value) self.new }
     {
         if shown {
             self.put(&signal.line(value));
@@ -56,9 +53,8 @@ impl Output<'_> {
     // The lines of a clock; no line where it shows no signal.
     fn put_clock(&mut self, clock: usize, old: Signals, new: Signals)
         requires clock_bound { clock < 10000 }
-        requires has_room { HasRoom self.old.text.now self.old.at (clock_lines clock old new) }
-        ensures same_text { self.new.text.ghost_name ≡ self.old.text.ghost_name }
-        ensures laid { Laid self.old.text.now self.old.at (clock_lines clock old new) self.new.at self.new.text.now }
+        requires has_room { HasRoom self.old (clock_lines clock old new) }
+        ensures { Puts self.old (clock_lines clock old new) self.new }
     {
         let shown = shown_at(clock, old, new);
         if shown.any() {
@@ -72,9 +68,8 @@ impl Output<'_> {
     // The text of a log.
     fn put_all(&mut self, log: &[u8])
         requires accepted { Accepted log.now }
-        requires has_room { HasRoom self.old.text.now self.old.at (waveform log.now) }
-        ensures same_text { self.new.text.ghost_name ≡ self.old.text.ghost_name }
-        ensures laid { Laid self.old.text.now self.old.at (waveform log.now) self.new.at self.new.text.now }
+        requires has_room { HasRoom self.old (waveform log.now) }
+        ensures { Puts self.old (waveform log.now) self.new }
     {
         self.put(&header());
         let mut old = Signals::from(0);

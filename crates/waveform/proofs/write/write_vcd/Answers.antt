@@ -9,7 +9,8 @@ use borrow.Author.Tests.{lt-ltb, le-ltb}
 use Rattle.verdict.specs.Refusal.{Done}
 use Rattle.verdict.proofs.Outputs.{refuses, succeeds}
 use Rattle.waveform.specs.Waveform.{waveform, Written, time_bytes}
-use Rattle.waveform.specs.Passes.{Accepted, Laid}
+use Rattle.waveform.specs.declared.write.Output.{Output}
+use Rattle.waveform.specs.Passes.{Accepted, Puts, put}
 use Rattle.waveform.proofs.Puts.{put_first}
 use Rattle.waveform.proofs.Writing.{not-whole, too_long, log-accepted}
 use Rattle.waveform.proofs.Longest.{never-longer}
@@ -17,11 +18,13 @@ use Rattle.waveform.proofs.write.write_vcd.Goals as goal
 use Rattle.waveform.proofs.write.write_vcd.Goals.{else-room-lt-LONGEST-via-then-room-lt-LONGEST+else-room-text_size, else-room-lt-LONGEST-via-else-room-lt-LONGEST}
 
 -- the text as it was put
-put_whole : (log text : List ℕ) (r : ℕ) (put text' : List ℕ) → Accepted log → length (waveform log) ≤ length text → Laid text 0 (waveform log) r put → text' ≡ put → Written log text (Done r) text'
-put_whole log text r put text' good fits laid same =
-    let enough = le-ltb (length text) (length (waveform log)) fits in
-    let size : r ≡ length (waveform log) = omega (arith, laid.behind) in
-    succeeds (rw (good, enough) (ap Done (sym size))) (same ∙ laid.output ∙ put_first (waveform log) text)
+put_whole : (log : List ℕ) (out out' : Output) (text' : List ℕ) → Accepted log → out.at ≡ 0 → length (waveform log) ≤ length out.text.now → Puts out (waveform log) out' → text' ≡ out'.text.now →
+    Written log out.text.now (Done out'.at) text'
+put_whole log out out' text' good start fits puts same =
+    let enough = le-ltb (length out.text.now) (length (waveform log)) fits in
+    let size : out'.at ≡ length (waveform log) = omega (arith, puts.behind, start) in
+    succeeds (rw (good, enough) (ap Done (sym size)))
+    (same ∙ puts.output ∙ ap (λ at. put at (waveform log) out.text.now) start ∙ put_first (waveform log) out.text.now)
 
 pub returns-then-log-ne0 : goal.returns-then-log-ne0
 returns-then-log-ne0 c = rw c.at.ensures (refuses (waveform c.args.log.now) c.args.text.now (rw (not-whole c.args.log.now c.if-log-ne0.true)) refl)
@@ -62,4 +65,4 @@ returns c =
       | else-room-lt-LONGEST-via-then-room-lt-LONGEST+else-room-text_size w ↦ omega (arith, w.if-room-text_size.false, w.text_size.ensures)
       | else-room-lt-LONGEST-via-else-room-lt-LONGEST w ↦ omega (arith, w.if-room-lt-LONGEST.false, short)
     ] in
-    put_whole c.args.log.now c.args.text.now _ _ _ good fits c.put_all.ensures.laid (search rules)
+    put_whole c.args.log.now _ _ _ good refl fits c.put_all.ensures (search rules)
