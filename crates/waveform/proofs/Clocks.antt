@@ -1,8 +1,8 @@
 -- The lines of a clock: by what it shows, and how many bytes they take.
 use Prim.Native.Nat.{ℕ, ◌-◌, ◌/◌, ◌%◌}
-use mathlib.Core.Path.{◌≡◌, refl}
+use mathlib.Core.Path.{◌≡◌, refl, ap, ◌∙◌}
 use mathlib.Core.Bool.{Bool, true, false, ◌||◌}
-use mathlib.Core.List.{List, [], ◌∷◌, ◌++◌}
+use mathlib.Core.List.{List, [], ◌∷◌, ◌++◌, append_assoc}
 use native.Mathlib.Omega.{arith}
 use lib.ListN.{set}
 use lib.Dec.{ltb}
@@ -41,11 +41,16 @@ module _ (clock : ℕ) (old new : Signals) where
   lines-hidden hides = rw hides
 
 -- the lines by the signals that the clock shows
+abbrev pub lines_shown : ℕ → Signals → Signals → List ℕ
+lines_shown clock new shown =
+    time_line clock ++ (value_line Level shown.level new.level ++ (value_line Enable shown.enable new.enable ++ value_line Contention shown.contention new.contention))
+
 module _ (clock : ℕ) (old new shown : Signals) (is : shown ≡ shown_at clock old new) where
-  pub lines-by : shown.level || shown.enable || shown.contention ≡ true →
-      clock_lines clock old new
-      ≡ time_line clock ++ (value_line Level shown.level new.level ++ value_line Enable shown.enable new.enable ++ value_line Contention shown.contention new.contention)
-  lines-by any = rw is (lines-shown clock old new (rw is at any))
+  pub lines-by : shown.level || shown.enable || shown.contention ≡ true → clock_lines clock old new ≡ lines_shown clock new shown
+  lines-by any =
+      rw is
+      (lines-shown clock old new (rw is at any)
+      ∙ ap (λ values. time_line clock ++ values) (append_assoc (value_line Level _ new.level) (value_line Enable _ new.enable) (value_line Contention _ new.contention)))
 
   pub no-lines-by : shown.level || shown.enable || shown.contention ≡ false → clock_lines clock old new ≡ []
   no-lines-by none = lines-hidden clock old new (rw is at none)

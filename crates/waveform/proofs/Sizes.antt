@@ -51,9 +51,9 @@ module _ (clock : ℕ) (old new shown : Signals) (is : shown ≡ shown_at clock 
       omega (
         arith,
         ap length (lines-by clock old new shown is any),
-        length-append (time_line clock) (level ++ enable ++ contention),
-        length-append (level ++ enable) contention,
-        length-append level enable,
+        length-append (time_line clock) (level ++ (enable ++ contention)),
+        length-append level (enable ++ contention),
+        length-append enable contention,
         value-long Level shown.level new.level,
         value-long Enable shown.enable new.enable,
         value-long Contention shown.contention new.contention,

@@ -41,6 +41,7 @@ struct Shown<'a> {
     rest: &'a [u8],
 }
 
+// The signals are fields, and their order is the text's, so that three calls are plainer than a loop.
 fn see_all<'a>(text: &'a [u8], old: Signals, first: bool) -> Shown<'a>
     ensures { shown_by result ≡ shown_in text.now old first }
 {

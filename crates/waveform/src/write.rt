@@ -12,6 +12,48 @@ use crate::signals::{Signal, Signals};
 use frame::Frame;
 use verdict::{Fault, Refusal};
 
+// A clock of a log: its number, and the signals of the clock before it and its own.
+#[derive(Clone, Copy)]
+struct Clock {
+    number: usize,
+    old: Signals,
+    new: Signals,
+}
+
+impl Clock {
+    // The signals that it shows: all at clock 1, later those that change.
+    fn shown(self) -> Signals
+        ensures { result ≡ shown_at self.number self.old self.new }
+    {
+        let first = self.number == 1;
+        Signals {
+            level: first | (self.old.level != self.new.level),
+            enable: first | (self.old.enable != self.new.enable),
+            contention: first | (self.old.contention != self.new.contention),
+        }
+    }
+
+    // How many bytes its lines take.
+    fn size(self) -> usize
+        ensures { result ≡ length (clock_lines self.number self.old self.new) }
+    {
+        let shown = self.shown();
+        if shown.any() {
+            let values = shown.level as usize + shown.enable as usize + shown.contention as usize;
+            time_size(self.number) + values * Signal::LINE
+        } else {
+            0
+        }
+    }
+}
+
+// How many bytes the line of a time takes.
+fn time_size(number: usize) -> usize
+    ensures { result ≡ length (time_line number) }
+{
+    2 + places(number)
+}
+
 // A text to write to, and the place behind what is put there so far.
 #[derive(Drop)]
 struct Output<'a> {
@@ -31,13 +73,13 @@ impl Output<'_> {
     }
 
     // The line of a time, of four digits at most.
-    fn put_time(&mut self, clock: usize)
-        requires clock_bound { clock < 10000 }
-        requires has_room { HasRoom self.old (time_line clock) }
-        ensures { Puts self.old (time_line clock) self.new }
+    fn put_time(&mut self, number: usize)
+        requires number_bound { number < 10000 }
+        requires has_room { HasRoom self.old (time_line number) }
+        ensures { Puts self.old (time_line number) self.new }
     {
         let mut room = [0; 6];
-        self.put(time_line(clock, &mut room));
+        self.put(time_line(number, &mut room));
     }
 
     // The line of a signal, where the clock shows it.
@@ -50,18 +92,19 @@ impl Output<'_> {
         }
     }
 
-    // The lines of a clock; no line where it shows no signal.
-    fn put_clock(&mut self, clock: usize, old: Signals, new: Signals)
-        requires clock_bound { clock < 10000 }
-        requires has_room { HasRoom self.old (clock_lines clock old new) }
-        ensures { Puts self.old (clock_lines clock old new) self.new }
+    // The lines of a clock; no line where it shows no signal. The signals are fields, and their order is the text's, so that three
+    // calls are plainer than a loop.
+    fn put_clock(&mut self, clock: Clock)
+        requires clock_bound { clock.number < 10000 }
+        requires has_room { HasRoom self.old (clock_lines clock.number clock.old clock.new) }
+        ensures { Puts self.old (clock_lines clock.number clock.old clock.new) self.new }
     {
-        let shown = shown_at(clock, old, new);
+        let shown = clock.shown();
         if shown.any() {
-            self.put_time(clock);
-            self.put_value(Signal::Level, shown.level, new.level);
-            self.put_value(Signal::Enable, shown.enable, new.enable);
-            self.put_value(Signal::Contention, shown.contention, new.contention);
+            self.put_time(clock.number);
+            self.put_value(Signal::Level, shown.level, clock.new.level);
+            self.put_value(Signal::Enable, shown.enable, clock.new.enable);
+            self.put_value(Signal::Contention, shown.contention, clock.new.contention);
         }
     }
 
@@ -76,42 +119,15 @@ impl Output<'_> {
         let count = log.len() / Frame::LOG_RECORD;
         for i in 0..count {
             let new = Signals::from(log[i * Frame::LOG_RECORD]);
-            self.put_clock(i + 1, old, new);
+            let clock = Clock {
+                number: i + 1,
+                old,
+                new,
+            };
+            self.put_clock(clock);
             old = new;
         }
         self.put_time(count + 1);
-    }
-}
-
-// The signals that a clock shows: all at clock 1, later those that change.
-fn shown_at(clock: usize, old: Signals, new: Signals) -> Signals
-    ensures { result ≡ shown_at clock old new }
-{
-    let first = clock == 1;
-    Signals {
-        level: first | (old.level != new.level),
-        enable: first | (old.enable != new.enable),
-        contention: first | (old.contention != new.contention),
-    }
-}
-
-// How many bytes the line of a time takes.
-fn time_size(clock: usize) -> usize
-    ensures { result ≡ length (time_line clock) }
-{
-    2 + places(clock)
-}
-
-// How many bytes the lines of a clock take.
-fn clock_size(clock: usize, old: Signals, new: Signals) -> usize
-    ensures { result ≡ length (clock_lines clock old new) }
-{
-    let shown = shown_at(clock, old, new);
-    if shown.any() {
-        let values = shown.level as usize + shown.enable as usize + shown.contention as usize;
-        time_size(clock) + values * Signal::LINE
-    } else {
-        0
     }
 }
 
@@ -125,7 +141,12 @@ fn text_size(log: &[u8]) -> usize
     let count = log.len() / Frame::LOG_RECORD;
     for i in 0..count {
         let new = Signals::from(log[i * Frame::LOG_RECORD]);
-        size += clock_size(i + 1, old, new);
+        let clock = Clock {
+            number: i + 1,
+            old,
+            new,
+        };
+        size += clock.size();
         old = new;
     }
     size + time_size(count + 1)

@@ -20,11 +20,11 @@ unfolding time_bytes
 overflow_add-size c =
     let log = c.args.log.now in
     let next = sized-next log c.loop-i.size c.loop-i.i c.loop-i.old c.loop-i-test.true c.loop-i.invariant in
-    omega (arith, next, c.clock_size-size.ensures, ap (λ new. length (clock_lines (c.loop-i.i + 1) c.loop-i.old new)) c.from-new.ensures, never-longer log c.requires)
+    omega (arith, next, c.size-size.ensures, ap (λ new. length (clock_lines (c.loop-i.i + 1) c.loop-i.old new)) c.from-new.ensures, never-longer log c.requires)
 
 pub loop-i-preserved : goal.loop-i-preserved
 loop-i-preserved c =
-    rw (c.clock_size-size.ensures, c.from-new.ensures) (sized-next c.args.log.now c.loop-i.size c.loop-i.i c.loop-i.old c.loop-i-test.true c.loop-i.invariant)
+    rw (c.size-size.ensures, c.from-new.ensures) (sized-next c.args.log.now c.loop-i.size c.loop-i.i c.loop-i.old c.loop-i-test.true c.loop-i.invariant)
 
 pub overflow_add-result : goal.overflow_add-result
 unfolding time_bytes

@@ -43,8 +43,8 @@ loop-i-preserved c =
     rw c.from-new.ensures
     (goes_on _ _ (room c.args.log.now c.args.self.now c.requires.has_room _ c.header.ensures _ c.put.ensures) c.loop-i.invariant c.loop-i-test.true (rw c.from-new.ensures at c.put_clock.ensures))
 
-pub put_time-requires-clause-clock_bound : goal.put_time-requires-clause-clock_bound
-put_time-requires-clause-clock_bound c = omega (arith, few-clocks c.args.log.now c.requires.accepted)
+pub put_time-requires-clause-number_bound : goal.put_time-requires-clause-number_bound
+put_time-requires-clause-number_bound c = omega (arith, few-clocks c.args.log.now c.requires.accepted)
 
 pub put_time-requires-clause-has_room : goal.put_time-requires-clause-has_room
 put_time-requires-clause-has_room c =

@@ -1,7 +1,7 @@
 -- Time, level, enable and contention, one behind the other, or nothing.
 use Prim.Native.Nat.{ℕ}
 use mathlib.Core.Path.{◌≡◌, subst, sym, ◌∙◌}
-use mathlib.Core.Bool.{true, ◌||◌}
+use mathlib.Core.Bool.{Bool, true, ◌||◌}
 use mathlib.Core.List.{List, ◌++◌}
 use Rattle.waveform.specs.declared.write.Output.{Output}
 use Rattle.waveform.specs.declared.signals.Signals.{Signals}
@@ -11,15 +11,12 @@ use Rattle.waveform.specs.Signals.{value_line}
 use Rattle.waveform.specs.Waveform.{clock_lines}
 use Rattle.waveform.specs.Passes.{HasRoom, Puts, shown_at}
 use Rattle.waveform.proofs.Puts.{puts-nothing, room-first, room-second, puts_both}
-use Rattle.waveform.proofs.Clocks.{lines-by, no-lines-by}
+use Rattle.waveform.proofs.Clocks.{lines_shown, lines-by, no-lines-by}
 use Rattle.waveform.proofs.write.Output.put_clock.Goals as goal
 
--- the lines of a clock that shows any signal
+-- the lines of a clock that shows any signal, and the room that is left behind each of them
 module _ (out : Output) (clock : ℕ) (old new shown : Signals) (has_room : HasRoom out (clock_lines clock old new)) (is : shown ≡ shown_at clock old new)
-    (any : shown.level || shown.enable || shown.contention ≡ true) where
-  abbrev time : List ℕ
-  time = time_line clock
-
+    (any : Bool) (says : any ≡ shown.level || shown.enable || shown.contention) (yes : any ≡ true) where
   abbrev level : List ℕ
   level = value_line Level shown.level new.level
 
@@ -29,62 +26,48 @@ module _ (out : Output) (clock : ℕ) (old new shown : Signals) (has_room : HasR
   abbrev contention : List ℕ
   contention = value_line Contention shown.contention new.contention
 
-  lines : clock_lines clock old new ≡ time ++ (level ++ enable ++ contention)
-  lines = lines-by clock old new shown is any
+  lines : clock_lines clock old new ≡ lines_shown clock new shown
+  lines = lines-by clock old new shown is (sym says ∙ yes)
 
-  room : HasRoom out (time ++ (level ++ enable ++ contention))
+  room : HasRoom out (lines_shown clock new shown)
   room = subst (HasRoom out) lines has_room
 
-  time-room : HasRoom out time
-  time-room = room-first out time (level ++ enable ++ contention) room
-
-  -- and the room that is left behind each of them
-  module _ (out₁ : Output) (timed : Puts out time out₁) where
-    after-time : HasRoom out₁ (level ++ enable ++ contention)
-    after-time = room-second time (level ++ enable ++ contention) room timed
-
-    two-room : HasRoom out₁ (level ++ enable)
-    two-room = room-first out₁ (level ++ enable) contention after-time
-
-    level-room : HasRoom out₁ level
-    level-room = room-first out₁ level enable two-room
+  module _ (out₁ : Output) (timed : Puts out (time_line clock) out₁) where
+    values-room : HasRoom out₁ (level ++ (enable ++ contention))
+    values-room = room-second {out = out} (time_line clock) (level ++ (enable ++ contention)) room timed
 
     module _ (out₂ : Output) (leveled : Puts out₁ level out₂) where
-      enable-room : HasRoom out₂ enable
-      enable-room = room-second level enable two-room leveled
+      later-room : HasRoom out₂ (enable ++ contention)
+      later-room = room-second {out = out₁} level (enable ++ contention) values-room leveled
 
-      module _ (out₃ : Output) (enabled : Puts out₂ enable out₃) where
-        both : Puts out₁ (level ++ enable) out₃
-        both = puts_both level enable two-room leveled enabled
-
-        contention-room : HasRoom out₃ contention
-        contention-room = room-second (level ++ enable) contention after-time both
-
-        all : (out' : Output) → Puts out₃ contention out' → Puts out (clock_lines clock old new) out'
-        all out' last =
-            subst (λ lines. Puts out lines out') (sym lines)
-            (puts_both time (level ++ enable ++ contention) room timed (puts_both (level ++ enable) contention after-time both last))
+      all : (out₃ out' : Output) → Puts out₂ enable out₃ → Puts out₃ contention out' → Puts out (clock_lines clock old new) out'
+      all out₃ out' enabled last =
+          subst (λ lines. Puts out lines out') (sym lines)
+          (puts_both {out = out} (time_line clock) (level ++ (enable ++ contention)) room timed
+          (puts_both {out = out₁} level (enable ++ contention) values-room leveled (puts_both {out = out₂} enable contention later-room enabled last)))
 
 pub put_time-requires-clause-has_room : goal.put_time-requires-clause-has_room
 put_time-requires-clause-has_room c =
-    time-room c.args.self.now c.args.clock c.args.old c.args.new _ c.requires.has_room c.shown_at-shown.ensures (sym c.any.ensures ∙ c.if-any.true)
+    room-first c.args.self.now _ _ (room c.args.self.now c.args.clock.number c.args.clock.old _ _ c.requires.has_room c.shown-shown.ensures _ c.any.ensures c.if-any.true)
 
 pub put_value-requires : goal.put_value-requires
 put_value-requires c =
-    level-room c.args.self.now c.args.clock c.args.old c.args.new _ c.requires.has_room c.shown_at-shown.ensures (sym c.any.ensures ∙ c.if-any.true) _ c.put_time.ensures
+    room-first c.put_time.new.self _ _ (values-room c.args.self.now c.args.clock.number c.args.clock.old _ _ c.requires.has_room c.shown-shown.ensures _ c.any.ensures c.if-any.true _ c.put_time.ensures)
 
 pub put_value-requires-then-any : goal.put_value-requires-then-any
 put_value-requires-then-any c =
-    enable-room c.args.self.now c.args.clock c.args.old c.args.new _ c.requires.has_room c.shown_at-shown.ensures (sym c.any.ensures ∙ c.if-any.true) _ c.put_time.ensures _ c.put_value.ensures
+    room-first c.put_value.new.self _ _ (later-room c.args.self.now c.args.clock.number c.args.clock.old _ _ c.requires.has_room c.shown-shown.ensures _ c.any.ensures c.if-any.true _ c.put_time.ensures _ c.put_value.ensures)
 
 pub put_value-requires-then-any-2 : goal.put_value-requires-then-any-2
 put_value-requires-then-any-2 c =
-    contention-room c.args.self.now c.args.clock c.args.old c.args.new _ c.requires.has_room c.shown_at-shown.ensures (sym c.any.ensures ∙ c.if-any.true) _ c.put_time.ensures _ c.put_value.ensures _ c.put_value-then-any.ensures
+    room-second {out = c.put_value.new.self} _ _
+    (later-room c.args.self.now c.args.clock.number c.args.clock.old _ _ c.requires.has_room c.shown-shown.ensures _ c.any.ensures c.if-any.true _ c.put_time.ensures _ c.put_value.ensures)
+    c.put_value-then-any.ensures
 
 pub returns-then-any : goal.returns-then-any
 returns-then-any c =
-    all c.args.self.now c.args.clock c.args.old c.args.new _ c.requires.has_room c.shown_at-shown.ensures (sym c.any.ensures ∙ c.if-any.true) _ c.put_time.ensures _ c.put_value.ensures _ c.put_value-then-any.ensures _ c.put_value-then-any-2.ensures
+    all c.args.self.now c.args.clock.number c.args.clock.old _ _ c.requires.has_room c.shown-shown.ensures _ c.any.ensures c.if-any.true _ c.put_time.ensures _ c.put_value.ensures _ _ c.put_value-then-any.ensures c.put_value-then-any-2.ensures
 
 pub returns-else-any : goal.returns-else-any
 returns-else-any c =
-    rw (no-lines-by c.args.clock c.args.old c.args.new _ c.shown_at-shown.ensures (sym c.any.ensures ∙ c.if-any.false)) (puts-nothing c.args.self.now)
+    rw (no-lines-by c.args.clock.number c.args.clock.old c.args.clock.new _ c.shown-shown.ensures (sym c.any.ensures ∙ c.if-any.false)) (puts-nothing c.args.self.now)
