@@ -2,7 +2,7 @@
 ghost use Rattle.std.specs.Prelude.{◌≡◌, ◌<◌};
 ghost use Rattle.verdict.specs.Refusal.{said};
 ghost use Rattle.waveform.specs.Waveform.{ReadBack};
-ghost use Rattle.waveform.specs.Passes.{seen_by, seen_in, shown_by, shown_in, IsNext, next_in, GoneOver};
+ghost use Rattle.waveform.specs.Passes.{seen_by, seen_in, shown_by, shown_in, least, IsNext, next_in, GoneOver};
 
 use crate::Waveform;
 use crate::lines::{header, time_line};
@@ -58,6 +58,17 @@ fn see_all<'a>(text: &'a [u8], old: Signals, first: bool) -> Shown<'a>
     }
 }
 
+// How many bytes a time line needs behind it: three value lines at clock 1, later one at least.
+fn least(first: bool) -> usize
+    ensures { result ≡ least first }
+{
+    if first {
+        3 * Signal::LINE
+    } else {
+        Signal::LINE
+    }
+}
+
 // What comes next in the text: another clock, or none at the closing time. Of a clock in which nothing changed the text says
 // nothing.
 fn what_follows<'a>(
@@ -83,13 +94,8 @@ fn what_follows<'a>(
     if values.is_empty() {
         return Ok(None);
     }
-    let least = if first {
-        3 * Signal::LINE
-    } else {
-        Signal::LINE
-    };
     let shown = see_all(values, old, first);
-    if values.len() < least + shown.rest.len() {
+    if values.len() < least(first) + shown.rest.len() {
         return Err(Fault::WrongText.at(0));
     }
     Ok(Some(shown))

@@ -14,7 +14,6 @@ use Rattle.waveform.specs.declared.signals.Signals.{Signals}
 use Rattle.waveform.specs.Passes.{Shown, shown_in, least, Clock, Foreign, next_in}
 use Rattle.waveform.proofs.Starts.{asked}
 use Rattle.waveform.proofs.read.what_follows.Goals as goal
-use Rattle.waveform.proofs.read.what_follows.Goals.{then-first-2, else-first-2}
 
 -- what is seen behind the time line, where the text goes on
 module _ (text line values : List ℕ) (clock needs : ℕ) (old : Signals) (seen : Shown)
@@ -60,15 +59,12 @@ returns-then-is_empty c =
 pub returns-then-values-least : goal.returns-then-values-least
 returns-then-values-least c =
     let here = c.in-Some.ensures.cases in
-    let enough : c.if-first-2.least ≡ least (eqb c.args.clock 1) =
-    elim c.if-first-2.branch [ then-first-2 w ↦ rw w.if-first-2.true w.least-is | else-first-2 w ↦ rw (ne_eqb c.args.clock 1 w.if-first-2.false) w.least-is ] in (
-      too_few _ _ _ c.args.clock _ c.args.old _ c.time_line-time.ensures here.0 here.1 (sym c.is_empty.ensures ∙ c.if-is_empty.false) enough c.see_all-shown.ensures c.if-values-least.true,
+    (
+      too_few _ _ _ c.args.clock _ c.args.old _ c.time_line-time.ensures here.0 here.1 (sym c.is_empty.ensures ∙ c.if-is_empty.false) c.least.ensures c.see_all-shown.ensures c.if-values-least.true,
       c.at-then-values-least.ensures,
     )
 
 pub returns : goal.returns
 returns c =
     let here = c.in-Some.ensures.cases in
-    let enough : c.if-first-2.least ≡ least (eqb c.args.clock 1) =
-    elim c.if-first-2.branch [ then-first-2 w ↦ rw w.if-first-2.true w.least-is | else-first-2 w ↦ rw (ne_eqb c.args.clock 1 w.if-first-2.false) w.least-is ] in
-    all_there _ _ _ c.args.clock _ c.args.old _ c.time_line-time.ensures here.0 here.1 (sym c.is_empty.ensures ∙ c.if-is_empty.false) enough c.see_all-shown.ensures c.if-values-least.false
+    all_there _ _ _ c.args.clock _ c.args.old _ c.time_line-time.ensures here.0 here.1 (sym c.is_empty.ensures ∙ c.if-is_empty.false) c.least.ensures c.see_all-shown.ensures c.if-values-least.false
