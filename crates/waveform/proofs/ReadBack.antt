@@ -15,7 +15,6 @@ use Rattle.verdict.specs.Output.{room_for, Writes}
 use Rattle.verdict.proofs.Lists.{length-tabulate}
 use Rattle.verdict.proofs.Outputs.{refuses}
 use Rattle.frame.specs.Frame.{log_record}
-use Rattle.frame.specs.Steps.{most_steps}
 use Rattle.waveform.specs.declared.signals.Signals.{Signals}
 use Rattle.waveform.specs.Signals.{flags_of}
 use Rattle.waveform.specs.Waveform.{signals_in, waveform, WritesAs, Reading, ReadBack}
@@ -100,10 +99,6 @@ module _ {text room : List ℕ} {r : Verdict} (gone : GoneOver text r room) wher
   module _ {n : ℕ} (done : r ≡ Done n) where
     clocks-counted : Counts (clocks_in text) n
     clocks-counted = counted (clocks_in text) (sym gone.verdict ∙ done)
-
-    -- there are not too many of them
-    pub few-counted : n ≤ most_steps
-    few-counted = let c = clocks-counted in omega (arith, c.size, (read-was-written text c.clocks c.is).1)
 
     -- the flags have no room in the output
     pub no_room_lem : (out : List ℕ) → length out < n → ReadBack text out (Refused no_room 0) out

@@ -58,8 +58,7 @@ returns-then-is_empty c =
 
 pub returns-then-values-least : goal.returns-then-values-least
 returns-then-values-least c =
-    let here = c.in-Some.ensures.cases in
-    (
+    let here = c.in-Some.ensures.cases in (
       too_few _ _ _ c.args.clock _ c.args.old _ c.time_line-time.ensures here.0 here.1 (sym c.is_empty.ensures ∙ c.if-is_empty.false) c.least.ensures c.see_all-shown.ensures c.if-values-least.true,
       c.at-then-values-least.ensures,
     )
