@@ -3,7 +3,8 @@ use Prim.Native.Nat.{ℕ, zero, suc, ◌+◌, ◌-◌, ◌≤◌, ◌<◌}
 use mathlib.Core.Path.{◌≡◌, refl, ap, ap₂, sym, ◌∙◌}
 use mathlib.Core.Bool.{Bool, true, false, cond}
 use mathlib.Core.List.{List, [], ◌∷◌, ◌++◌, map, map-append, append-nil}
-use mathlib.Core.Option.{Option, none, some, none-ne-some}
+use Rattle.std.specs.Prelude.{Option, None, Some}
+use Rattle.std.proofs.lemmas.Option.{none-some}
 use native.Mathlib.Omega.{arith}
 use native.Mathlib.Numerals.{add-one}
 use lib.ListN.{length, take, drop, set, length-append}
@@ -29,12 +30,12 @@ unfolding prepend_all
 one_more [] signals rest = refl
 one_more (first ∷ past) signals rest = ap (prepend first) (one_more past signals rest)
 
-prepend-none : (past : List Signals) → prepend_all past none ≡ none
+prepend-none : (past : List Signals) → prepend_all past None ≡ None
 unfolding prepend_all
 prepend-none [] = refl
 prepend-none (first ∷ past) = ap (prepend first) (prepend-none past)
 
-prepend-some : (past rest : List Signals) → prepend_all past (some rest) ≡ some (past ++ rest)
+prepend-some : (past rest : List Signals) → prepend_all past (Some rest) ≡ Some (past ++ rest)
 unfolding prepend_all
 prepend-some [] rest = refl
 prepend-some (first ∷ past) rest = ap (prepend first) (prepend-some past rest)
@@ -60,7 +61,7 @@ unfolding rest_at clocks_from
 rest-by i rest old = go (most_steps - i) refl
   where
     go : (left : ℕ) → most_steps - i ≡ left → Later i rest old
-    go zero e = record { later = λ shown. none; is = rw e }
+    go zero e = record { later = λ shown. None; is = rw e }
     go (suc left) e = record { later = λ shown. clocks_from left shown.rest (suc (i + 1)) shown.signals; is = rw e }
 
 module _ (text : List ℕ) where
@@ -76,8 +77,8 @@ module _ (text : List ℕ) where
   goes_first flags there = record { past = []; count = refl; all = rw there; output = refl }
 
   -- where nothing can be read nothing is promised of the flags
-  pub foreign : (flags : List ℕ) → clocks_in text ≡ none → GoneOver text (Refused wrong_text 0) flags
-  foreign flags unread = record { verdict = rw unread; output = λ clocks read. absurd (none-ne-some clocks (sym unread ∙ read)) }
+  pub foreign : (flags : List ℕ) → clocks_in text ≡ None → GoneOver text (Refused wrong_text 0) flags
+  foreign flags unread = record { verdict = rw unread; output = λ clocks read. absurd (none-some clocks (sym unread ∙ read)) }
 
   pub no_header : (flags : List ℕ) → starts_with header text ≡ false → GoneOver text (Refused wrong_text 0) flags
   unfolding clocks_in
@@ -88,8 +89,8 @@ module _ (text : List ℕ) where
     pub closes : next_in rest (i + 1) old ≡ Closing → (flags' : List ℕ) → take i flags' ≡ take i flags → GoneOver text (Done i) flags'
     closes next flags' same =
         let behind = rest-by i rest old in
-        let read : clocks_in text ≡ some now.past =
-        now.all ∙ ap (prepend_all now.past) (behind.is ∙ ap (λ n. clocks_by n behind.later) next) ∙ prepend-some now.past [] ∙ ap some (append-nil now.past) in
+        let read : clocks_in text ≡ Some now.past =
+        now.all ∙ ap (prepend_all now.past) (behind.is ∙ ap (λ n. clocks_by n behind.later) next) ∙ prepend-some now.past [] ∙ ap Some (append-nil now.past) in
         record {
           verdict = rw read (ap Done (sym now.count));
           output = λ clocks is.

@@ -3,7 +3,8 @@ use Prim.Native.Nat.{ℕ, ◌≤◌, ◌<◌}
 use mathlib.Core.Path.{◌≡◌, refl, subst, ap, ap₂, sym, ◌∙◌}
 use mathlib.Core.Bool.{true, false}
 use mathlib.Core.List.{List, [], map, ◌++◌}
-use mathlib.Core.Option.{Option, none, some, none-ne-some}
+use Rattle.std.specs.Prelude.{Option, None, Some}
+use Rattle.std.proofs.lemmas.Option.{none-some}
 use native.Mathlib.Omega.{arith}
 use lib.ListN.{length, take, drop, length-map}
 use borrow.Author.Tests.{lt-ltb, le-ltb}
@@ -24,19 +25,19 @@ use Rattle.waveform.proofs.Reading.{read-was-written, written-is-read}
 use Rattle.waveform.proofs.Logs.{flags-masked, log_of, writes_as}
 
 -- the clocks of a text that is written of a log
-pub log-read : (log text : List ℕ) → WritesAs log text → clocks_in text ≡ some (signals_in log)
+pub log-read : (log text : List ℕ) → WritesAs log text → clocks_in text ≡ Some (signals_in log)
 unfolding waveform
 log-read log text writes =
     written-is-read text (signals_in log) writes.same
     (omega (arith, length-tabulate (records log_record log) (signals_at log), few-clocks log writes.accepted))
 
 -- and a log for the clocks of a text
-pub read_log : (text : List ℕ) (clocks : List Signals) → clocks_in text ≡ some clocks → WritesAs (log_of clocks) text
+pub read_log : (text : List ℕ) (clocks : List Signals) → clocks_in text ≡ Some clocks → WritesAs (log_of clocks) text
 read_log text clocks read = let was = read-was-written text clocks read in writes_as clocks text was.1 was.0
 
 module _ (text out : List ℕ) (r : Verdict) (out' : List ℕ) where
   -- of a text with these clocks
-  pub reads_as : (clocks : List Signals) → clocks_in text ≡ some clocks → Writes (room_for out (length clocks)) (map flags_of clocks) out r out' → ReadBack text out r out'
+  pub reads_as : (clocks : List Signals) → clocks_in text ≡ Some clocks → Writes (room_for out (length clocks)) (map flags_of clocks) out r out' → ReadBack text out r out'
   reads_as clocks read wrote =
       record {
         ours = λ log writes.
@@ -47,10 +48,10 @@ module _ (text out : List ℕ) (r : Verdict) (out' : List ℕ) where
       }
 
   -- of one that has none
-  pub reads_nothing : clocks_in text ≡ none → Writes (Refused wrong_text 0) [] out r out' → ReadBack text out r out'
+  pub reads_nothing : clocks_in text ≡ None → Writes (Refused wrong_text 0) [] out r out' → ReadBack text out r out'
   reads_nothing unread refused =
       record {
-        ours = λ log writes. absurd (none-ne-some _ (sym unread ∙ log-read log text writes));
+        ours = λ log writes. absurd (none-some _ (sym unread ∙ log-read log text writes));
         foreign = λ strange. refused;
       }
 
@@ -63,8 +64,8 @@ pub whose : (text : List ℕ) → Whose text
 whose text = go (clocks_in text) refl
   where
     go : (read : Option (List Signals)) → clocks_in text ≡ read → Whose text
-    go none e = of_none (λ log writes. none-ne-some _ (sym e ∙ log-read log text writes))
-    go (some clocks) e = of-log (log_of clocks) (read_log text clocks e)
+    go None e = of_none (λ log writes. none-some _ (sym e ∙ log-read log text writes))
+    go (Some clocks) e = of-log (log_of clocks) (read_log text clocks e)
 
 -- what follows from what is kept, in either case
 pub reading-both : {text out : List ℕ} {Keeps Keeps' : Verdict → List ℕ → Type 0} {Same : Type 0} →
@@ -78,16 +79,16 @@ reading-both {text} {Same = Same} follows p q = go (whose text)
 -- What the reader's room says: it holds the flags of the clocks that are counted
 record Counts (read : Option (List Signals)) (n : ℕ) : Type 0 where
   pub clocks : List Signals
-  pub is : read ≡ some clocks
+  pub is : read ≡ Some clocks
   pub size : length clocks ≡ n
 
-uncounted : (read : Option (List Signals)) {number index : ℕ} → count_of read ≡ Refused number index → read ≡ none
-uncounted none e = refl
-uncounted (some clocks) e = absurd (let z : ◌≡◌ {A = ℕ} 0 1 = cc in omega arith)
+uncounted : (read : Option (List Signals)) {number index : ℕ} → count_of read ≡ Refused number index → read ≡ None
+uncounted None e = refl
+uncounted (Some clocks) e = absurd (let z : ◌≡◌ {A = ℕ} 0 1 = cc in omega arith)
 
 counted : (read : Option (List Signals)) {n : ℕ} → count_of read ≡ Done n → Counts read n
-counted none e = absurd (let z : ◌≡◌ {A = ℕ} 0 1 = cc in omega arith)
-counted (some clocks) e = record { clocks = clocks; is = refl; size = cc }
+counted None e = absurd (let z : ◌≡◌ {A = ℕ} 0 1 = cc in omega arith)
+counted (Some clocks) e = record { clocks = clocks; is = refl; size = cc }
 
 module _ {text room : List ℕ} {r : Verdict} (gone : GoneOver text r room) where
   -- a text that is not ours

@@ -3,7 +3,8 @@ use Prim.Native.Nat.{ℕ, zero, suc, ◌+◌, ◌≤◌, ◌<◌}
 use mathlib.Core.Path.{◌≡◌, refl, ap, ap₂, sym, ◌∙◌}
 use mathlib.Core.Bool.{Bool, true, false, cond}
 use mathlib.Core.List.{List, [], ◌∷◌, ◌++◌, append_assoc, append-nil}
-use mathlib.Core.Option.{Option, none, some, none-ne-some}
+use Rattle.std.specs.Prelude.{Option, None, Some}
+use Rattle.std.proofs.lemmas.Option.{none-some}
 use native.Mathlib.Omega.{arith}
 use lib.ListN.{length, drop, length-append}
 use lib.Seq.{drop-append_seam}
@@ -43,8 +44,8 @@ goes text clock old = go _ _ _ _ refl refl refl refl
     go : (time end first few : Bool) → starts_with (time_line clock) text ≡ time → eqb (length values) 0 ≡ end → eqb clock 1 ≡ first → ltb (length values) (least (eqb clock 1) + length all.rest) ≡ few →
         Goes text clock old (cond time (cond end Closing (cond few Foreign (Clock all))) (cond first Foreign (Clock (record { signals = old; rest = text }))))
     go true true first few p q r s =
-        let none : values ≡ [] = length-zero values (eqb-true (length values) 0 q) in
-        closes (started (time_line clock) text p ∙ ap (λ more. time_line clock ++ more) none ∙ append-nil (time_line clock))
+        let nothing : values ≡ [] = length-zero values (eqb-true (length values) 0 q) in
+        closes (started (time_line clock) text p ∙ ap (λ more. time_line clock ++ more) nothing ∙ append-nil (time_line clock))
     go true false first true p q r s = foreign
     go true false first false p q r s =
         goes_on (clock-seen values clock old (sees _ _ _ _) (sees _ _ _ _) (sees _ _ _ _) (ltb-false _ _ s) (started (time_line clock) text p))
@@ -58,27 +59,27 @@ Holds text left clock old clocks = (text ≡ lines_from clock old clocks) × (le
 
 -- if what is read behind the next clock was written, so was what is read before it
 reads : (text : List ℕ) (left clock : ℕ) (old : Signals) (clocks : List Signals) (later : Shown → Option (List Signals)) →
-    ((shown : Shown) (rest : List Signals) → later shown ≡ some rest → (shown.rest ≡ lines_from (suc clock) shown.signals rest) × (length rest < left)) →
-    {next : Next} → Goes text clock old next → clocks_by next later ≡ some clocks → Holds text left clock old clocks
+    ((shown : Shown) (rest : List Signals) → later shown ≡ Some rest → (shown.rest ≡ lines_from (suc clock) shown.signals rest) × (length rest < left)) →
+    {next : Next} → Goes text clock old next → clocks_by next later ≡ Some clocks → Holds text left clock old clocks
 unfolding lines_from
 reads text left clock old clocks later rest (closes here) e =
-    let none : [] ≡ clocks = cc in
-    rw (← none) (here, omega arith)
-reads text left clock old clocks later rest foreign e = absurd (none-ne-some clocks e)
+    let nothing : [] ≡ clocks = cc in
+    rw (← nothing) (here, omega arith)
+reads text left clock old clocks later rest foreign e = absurd (none-some clocks e)
 reads text left clock old clocks later rest (goes_on {shown} here) e = go (later shown) refl e
   where
-    go : (o : Option (List Signals)) → later shown ≡ o → prepend shown.signals o ≡ some clocks → Holds text left clock old clocks
-    go none p e = absurd (none-ne-some clocks e)
-    go (some more) p e =
+    go : (o : Option (List Signals)) → later shown ≡ o → prepend shown.signals o ≡ Some clocks → Holds text left clock old clocks
+    go None p e = absurd (none-some clocks e)
+    go (Some more) p e =
         let r = rest shown more p in
         let all : shown.signals ∷ more ≡ clocks = cc in
         rw (← all) (here ∙ ap (λ lines. clock_lines clock old shown.signals ++ lines) r.0, r.1)
 
 -- so from any clock on what is read was written
-pub sound : (text : List ℕ) (left clock : ℕ) (old : Signals) (clocks : List Signals) → clocks_from left text clock old ≡ some clocks → Holds text left clock old clocks
+pub sound : (text : List ℕ) (left clock : ℕ) (old : Signals) (clocks : List Signals) → clocks_from left text clock old ≡ Some clocks → Holds text left clock old clocks
 unfolding clocks_from
 sound text zero clock old clocks e =
-    reads text zero clock old clocks _ (λ shown rest p. absurd (none-ne-some rest p)) (goes text clock old) e
+    reads text zero clock old clocks _ (λ shown rest p. absurd (none-some rest p)) (goes text clock old) e
 sound text (suc left) clock old clocks e =
     reads text (suc left) clock old clocks _
     (λ shown rest p. let r = sound shown.rest left (suc clock) shown.signals rest p in (r.0, omega (arith, r.1)))
@@ -150,7 +151,7 @@ module _ (text : List ℕ) (clock : ℕ) (old : Signals) where
 
 -- so from any clock on what is written is read
 pub complete : (text : List ℕ) (clocks : List Signals) (left clock : ℕ) (old : Signals) →
-    text ≡ lines_from clock old clocks → length clocks ≤ left → clock + left < 10000 → clocks_from left text clock old ≡ some clocks
+    text ≡ lines_from clock old clocks → length clocks ≤ left → clock + left < 10000 → clocks_from left text clock old ≡ Some clocks
 unfolding clocks_from lines_from Follows
 complete text [] zero clock old here few small = rw (next-closing text clock old here)
 complete text [] (suc left) clock old here few small = rw (next-closing text clock old here)
@@ -160,19 +161,19 @@ complete text (new ∷ later) (suc left) clock old here few small =
     rw (follows, complete (lines_from (suc clock) new later) later left (suc clock) new refl (omega arith) (omega arith))
 
 -- Whole texts: what is read was written,
-pub read-was-written : (text : List ℕ) (clocks : List Signals) → clocks_in text ≡ some clocks → (text_of clocks ≡ text) × (length clocks ≤ most_steps)
+pub read-was-written : (text : List ℕ) (clocks : List Signals) → clocks_in text ≡ Some clocks → (text_of clocks ≡ text) × (length clocks ≤ most_steps)
 unfolding clocks_in text_of
 read-was-written text clocks e = go (starts_with header text) refl e
   where
-    go : (b : Bool) → starts_with header text ≡ b → cond b (clocks_from most_steps (drop (length header) text) 1 (signals_of 0)) none ≡ some clocks →
+    go : (b : Bool) → starts_with header text ≡ b → cond b (clocks_from most_steps (drop (length header) text) 1 (signals_of 0)) None ≡ Some clocks →
         (header ++ lines_from 1 (signals_of 0) clocks ≡ text) × (length clocks ≤ most_steps)
     go true p e =
         let r = sound (drop (length header) text) most_steps 1 (signals_of 0) clocks e in
         (sym (started header text p ∙ ap (λ lines. header ++ lines) r.0), r.1)
-    go false p e = absurd (none-ne-some clocks e)
+    go false p e = absurd (none-some clocks e)
 
 -- and what is written is read
-pub written-is-read : (text : List ℕ) (clocks : List Signals) → text_of clocks ≡ text → length clocks ≤ most_steps → clocks_in text ≡ some clocks
+pub written-is-read : (text : List ℕ) (clocks : List Signals) → text_of clocks ≡ text → length clocks ≤ most_steps → clocks_in text ≡ Some clocks
 unfolding clocks_in text_of
 written-is-read text clocks e few =
     rw (← e, starts) (complete _ clocks most_steps 1 (signals_of 0) (drop-append_seam header _) few (omega arith))

@@ -1,6 +1,5 @@
 -- What the parts of `write_vcd` and `read_vcd` promise each other.
-use Rattle.std.specs.Prelude.{ℕ, zero, suc, ◌+◌, ◌≤◌, ◌≡◌, Bool, true, not, ◌&&◌, cond, List, [], ◌∷◌, ◌++◌, map, length, take, drop, eqb, ltb, Result, Ok, Err, Option as StdOption, Some, None}
-use Rattle.std.proofs.Math.Option.{Option, none, some}
+use Rattle.std.specs.Prelude.{ℕ, zero, suc, ◌+◌, ◌≤◌, ◌≡◌, Bool, true, not, ◌&&◌, cond, List, [], ◌∷◌, ◌++◌, map, length, take, drop, eqb, ltb, Result, Ok, Err, Option, Some, None}
 use Rattle.verdict.specs.Refusal.{Verdict}
 use Rattle.verdict.specs.Refusal.{Done, Refused}
 use Rattle.verdict.specs.Refusal.{wrong_text, refusal_at}
@@ -105,36 +104,36 @@ next_in text clock old =
     (cond first Foreign (Clock (record { signals = old; rest = text })))
 
 -- the code's result for it
-abbrev pub IsNext : Next → Result (StdOption ShownBy) Refusal → Type 0
+abbrev pub IsNext : Next → Result (Option ShownBy) Refusal → Type 0
 IsNext next (Ok (Some shown)) = next ≡ Clock (shown_by shown)
 IsNext next (Ok None) = next ≡ Closing
 IsNext next (Err refusal) = (next ≡ Foreign) × (refusal ≡ refusal_at WrongText 0)
 
 -- one clock more in front of those that are read
 abbrev pub prepend : Signals → Option (List Signals) → Option (List Signals)
-prepend signals none = none
-prepend signals (some later) = some (signals ∷ later)
+prepend signals None = None
+prepend signals (Some later) = Some (signals ∷ later)
 
 abbrev pub clocks_by : Next → (Shown → Option (List Signals)) → Option (List Signals)
-clocks_by Closing later = some []
-clocks_by Foreign later = none
+clocks_by Closing later = Some []
+clocks_by Foreign later = None
 clocks_by (Clock shown) later = prepend shown.signals (later shown)
 
 -- the signals of the clocks of a text from a clock on, of which there are `left` at most; none where the text is foreign
 unfoldable pub clocks_from : ℕ → List ℕ → ℕ → Signals → Option (List Signals)
-clocks_from zero text clock old = clocks_by (next_in text clock old) (λ shown. none)
+clocks_from zero text clock old = clocks_by (next_in text clock old) (λ shown. None)
 clocks_from (suc left) text clock old =
     clocks_by (next_in text clock old) (λ shown. clocks_from left shown.rest (suc clock) shown.signals)
 
 unfoldable pub clocks_in : List ℕ → Option (List Signals)
-clocks_in text = cond (starts_with header text) (clocks_from most_steps (drop (length header) text) 1 (signals_of 0)) none
+clocks_in text = cond (starts_with header text) (clocks_from most_steps (drop (length header) text) 1 (signals_of 0)) None
 
 -- the answer to them
 abbrev pub count_of : Option (List Signals) → Verdict
-count_of none = Refused wrong_text 0
-count_of (some clocks) = Done (length clocks)
+count_of None = Refused wrong_text 0
+count_of (Some clocks) = Done (length clocks)
 
 -- going over the whole text counts its clocks, and where it is ours their flags are put
 pub record GoneOver (text : List ℕ) (r : Verdict) (out' : List ℕ) : Type 0 where
   pub verdict : r ≡ count_of (clocks_in text)
-  pub output : (clocks : List Signals) → clocks_in text ≡ some clocks → take (length clocks) out' ≡ map flags_of clocks
+  pub output : (clocks : List Signals) → clocks_in text ≡ Some clocks → take (length clocks) out' ≡ map flags_of clocks

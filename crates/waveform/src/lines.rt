@@ -1,4 +1,4 @@
-// The lines of the text that name no signal's value.
+// The header of the text, and its time lines.
 ghost use Rattle.std.specs.Prelude.{◌≡◌, ◌<◌};
 ghost use Rattle.waveform.specs.Text.{digit_of, places, time_line};
 ghost use Rattle.waveform.specs.Waveform.{header as header_text};
