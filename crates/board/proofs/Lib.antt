@@ -1,4 +1,5 @@
 pub mod Records
+pub mod Registers
 pub mod Turns
 pub mod Taken
 pub mod Loading

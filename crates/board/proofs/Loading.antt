@@ -9,13 +9,13 @@ use lib.Dec.{eqb}
 use Rattle.verdict.proofs.Lists.{length-tabulate, get_or-tabulate}
 use Rattle.verdict.proofs.Outputs.{filled}
 use Rattle.verdict.specs.Output.{tabulate}
-use Rattle.phy.specs.declared.own.Own.{Own}
 use Rattle.phy.specs.declared.Phy.{Phy}
+use Rattle.phy.specs.Fields.{PhyRecord}
 use Rattle.phy.specs.Clock.{fresh}
 use Rattle.phy.specs.Sound.{nowhere}
 use Rattle.phy.proofs.Every.{any-ext}
-use Rattle.board.specs.Record.{has_address, fault_of, judged}
-use Rattle.board.specs.Load.{address_at, zero_byte_at, own_at, defaults_at, masks_at, phy_at, used_before, record_fault}
+use Rattle.board.specs.Record.{has_address, fault_of}
+use Rattle.board.specs.Load.{address_at, zero_byte_at, record_at, phy_at, used_before, record_fault}
 
 module _ (file : List ℕ) (old : List Phy) (n : ℕ) where
   -- a PHY that stands already, where n are loaded
@@ -30,14 +30,13 @@ module _ (file : List ℕ) (old : List Phy) (n : ℕ) where
       any-ext k _ _ (λ i l. ap (λ (p : Phy). eqb p.own.address (address_at file k)) (loaded_at i (omega arith)))
 
 -- what is read of the record at index k, once it is what the file says
-module _ (file : List ℕ) (k : ℕ) (own : Own) (defaults masks : List ℕ) (o : own ≡ own_at file k) (d : defaults ≡ defaults_at file k) (m : masks ≡ masks_at file k) where
+module _ (file : List ℕ) (k : ℕ) (read : PhyRecord) (as-file : read ≡ record_at file k) where
   -- its checks are the file's
-  pub found-fault : (used : Bool) → used ≡ used_before file k
-      → judged (fault_of (zero_byte_at file k) used (record { own = own; defaults = defaults; masks = masks })) own ≡ judged (record_fault file k) (own_at file k)
+  pub found-fault : (used : Bool) → used ≡ used_before file k → fault_of (zero_byte_at file k) used read ≡ record_fault file k
   unfolding record_fault
-  found-fault used u = rw (u, o, d, m)
+  found-fault used u = rw (u, as-file)
 
   -- and the PHY that is made of it is the record's
-  pub found-phy : fresh own defaults masks ≡ phy_at file k
+  pub found-phy : fresh read.own read.defaults read.masks ≡ phy_at file k
   unfolding phy_at
-  found-phy = rw (o, d, m)
+  found-phy = rw as-file

@@ -24,22 +24,6 @@ module _ (address : ℕ → ℕ) where
   unfolding taken_by
   taken_at n a within = get_or-tabulate 256 _ false a within
 
-  -- and at any number, since an address is a byte
-  pub taken-anywhere : (n : ℕ) → ((i : ℕ) → i < n → address i < 256) → (a : ℕ) → get_or (taken_by address n) a false ≡ any n (λ i. eqb (address i) a)
-  unfolding taken_by any
-  taken-anywhere n bytes a = go (ltb a 256) refl
-    where
-      none : (m : ℕ) → m ≤ n → 256 ≤ a → any m (λ i. eqb (address i) a) ≡ false
-      none zero h past = refl
-      none (suc m) h past = rw (none m (omega arith) past, ne_eqb (address m) a (λ e. omega (arith, bytes m (omega arith), e)))
-
-      go : (b : Bool) → ltb a 256 ≡ b → get_or (tabulate 256 (λ x. any n (λ i. eqb (address i) x))) a false ≡ any n (λ i. eqb (address i) a)
-      go true e = get_or-tabulate 256 _ false a (ltb-true a 256 e)
-      go false e =
-          let past = ltb-false a 256 e in
-          get_or-eq_default (tabulate 256 (λ x. any n (λ i. eqb (address i) x))) false (rw length-tabulate past)
-          ∙ sym (none n (omega arith) past)
-
   pub taken_next : (n : ℕ) → address n < 256 → set (taken_by address n) (address n) true ≡ taken_by address (n + 1)
   unfolding taken_by
   taken_next n within =

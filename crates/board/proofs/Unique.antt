@@ -1,10 +1,12 @@
 -- The promises of this crate are equations, so two results that meet one are equal.
 use Prim.Native.Nat.{ℕ}
 use mathlib.Core.List.{List}
-use mathlib.Core.Path.{◌≡◌, sym, ◌∙◌}
+use mathlib.Core.Path.{◌≡◌, ap, ap₂, sym, ◌∙◌}
 use Rattle.verdict.specs.Refusal.{Verdict}
 use Rattle.board.specs.declared.Board.{Board}
-use Rattle.board.specs.Outcome.{Told}
+use Rattle.verdict.proofs.Faults.{one_result}
+use Rattle.board.specs.declared.Outcome.{Outcome}
+use Rattle.board.specs.Outcome.{Told, told, outcome_of}
 use Rattle.board.specs.Check.{checked}
 use Rattle.board.specs.Load.{loaded}
 use Rattle.board.specs.Events.{events_verdict}
@@ -17,3 +19,8 @@ check-unique board r s p q = p ∙ sym q
 
 pub check-events-unique : (board : Board) (events : List ℕ) (last : ℕ) (r s : Verdict) → r ≡ events_verdict board events last → s ≡ events_verdict board events last → r ≡ s
 check-events-unique board events last r s p q = p ∙ sym q
+
+-- two outcomes that say the same are one outcome
+pub one_outcome : (one other : Outcome) → told one ≡ told other → one ≡ other
+one_outcome one other same =
+    ap₂ outcome_of (one_result one.verdict other.verdict (ap (λ (t : Told). t.verdict) same)) (ap (λ (t : Told). t.board) same)

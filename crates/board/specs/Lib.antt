@@ -1,3 +1,4 @@
+pub mod Registers
 pub mod Record
 pub mod Check
 pub mod Outcome

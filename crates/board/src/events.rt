@@ -1,13 +1,12 @@
 // The event file (document 01, "Records": "Events, 4 bytes, 0 to 256: clock number (2 bytes), PHY address, code").
-ghost use Rattle.std.specs.Prelude.{◌≡◌, false, ℕ, ◌+◌, ◌*◌, ◌≤◌, ◌<◌, min, get_or, eqb};
+ghost use Rattle.std.specs.Prelude.{◌≡◌, false, ℕ, ◌+◌, ◌*◌, ◌<◌, length, get_or};
 ghost use Rattle.verdict.specs.File.{byte_at};
 ghost use Rattle.verdict.specs.Refusal.{said, judged, judged_by};
-ghost use Rattle.phy.specs.Record.{any};
+ghost use Rattle.board.specs.Record.{has_address};
 ghost use Rattle.board.specs.Events.{event_record, event_clock, event_address, event_code, clock_before, event_fault_as, events_verdict};
-ghost use Rattle.board.specs.Check.{places};
 
-use crate::{Board, record};
-use phy::Event;
+use crate::Board;
+use phy::{Event, Phy};
 use verdict::{Fault, Refusal};
 
 // A byte of the event record at index k; past the file's end a byte reads 0.
@@ -40,22 +39,13 @@ pub fn code_of(events: &[u8], k: usize) -> u8
     byte_of(events, k, 3)
 }
 
-// How many places are looked at for an address.
-fn places_of(board: Board) -> usize
-    ensures { result ≡ min board.count places }
-{
-    board.count.min(Board::PLACES)
-}
-
-// Which addresses are among the first n of these: a table to ask for each event, in place of a walk. It is made of the addresses
-// alone, since a loop over the places of a board would hold a second board.
-fn table_of(addresses: [u8; 32], n: usize) -> [bool; 256]
-    requires { n ≤ places }
-    ensures { (address : ℕ) → get_or result address false ≡ any n (λ i. eqb (get_or addresses i 0) address) }
+// Which addresses these PHYs have: a table to ask for each event, in place of a walk.
+fn table_of(phys: &[Phy]) -> [bool; 256]
+    ensures { (address : ℕ) → address < 256 → get_or result address false ≡ has_address phys.now (length phys.now) address }
 {
     let mut there = [false; 256];
-    for address in &addresses[..n] {
-        there[*address as usize] = true;
+    for phy in phys {
+        there[phy.own.address as usize] = true;
     }
     there
 }
@@ -88,7 +78,7 @@ pub fn check_events(board: Board, events: &[u8], last: usize) -> Result<usize, R
     if Board::MOST_EVENTS < count {
         return Err(Fault::TooMany.at(0));
     }
-    let there = table_of(record::addresses_of(board), places_of(board));
+    let there = table_of(&board.phys[..board.count.min(Board::PLACES)]);
     let mut before: u16 = 0;
     for k in 0..count {
         let address = address_of(events, k) as usize;

@@ -7,9 +7,8 @@ ghost use Rattle.board.specs.Load.{own_at, words_at, board_record, record_at, re
 ghost use Rattle.board.specs.Outcome.{told};
 ghost use Rattle.board.specs.Record.{record_in};
 
-use crate::bits::Register;
 use crate::record::Record;
-use crate::{Board, Outcome, sound};
+use crate::{Board, Outcome, register, sound};
 use phy::{Own, Phy};
 use verdict::{Fault, Refusal};
 
@@ -20,12 +19,12 @@ fn words_at(file: &[u8], start: usize) -> [u16; 32]
     ensures { result ≡ words_at file.now start }
 {
     let mut words = [0u16; 32];
-    for r in 0..Register::COUNT {
+    for r in 0..register::COUNT {
         let at = start + r * 2;
-        words[r] = file[at] as u16 + file[at + 1] as u16 * 256;
+        words[r] = u16::from_le_bytes([file[at], file[at + 1]]);
     }
     for word in words.iter_mut() {
-        *word = *word % 256 * 256 + *word / 256;
+        *word = word.swap_bytes();
     }
     words
 }

@@ -2,10 +2,10 @@
 // board").
 #![tactic(auto)]
 
-mod bits;
 mod events;
 mod file;
 mod record;
+mod register;
 mod sound;
 
 ghost use Rattle.std.specs.Prelude.{◌≡◌};
@@ -63,18 +63,17 @@ pub fn check(board: Board) -> Result<usize, Refusal>
     }
     // Which addresses the places before have.
     let mut taken = [false; 256];
-    for k in 0..count {
-        let address = board.phys[k].own.address as usize;
-        let passes = sound::record_passes(board.phys[k], taken[address]);
-        if !(passes & sound::phy_sound(board.phys[k])) {
+    for (k, phy) in board.phys[..count].iter().enumerate() {
+        let address = phy.own.address as usize;
+        let passes = sound::record_passes(*phy, taken[address]);
+        if !(passes & sound::phy_sound(*phy)) {
             return Err(Fault::NotSound.at(k));
         }
         taken[address] = true;
     }
-    for place in count..Board::PLACES {
-        if !sound::is_blank(board.phys[place]) {
-            return Err(Fault::NotSound.at(place));
-        }
+    let mut spare = board.phys[count..].iter();
+    match spare.position(|phy| !sound::is_blank(*phy)) {
+        Some(k) => Err(Fault::NotSound.at(count + k)),
+        None => Ok(count),
     }
-    Ok(count)
 }

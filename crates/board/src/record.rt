@@ -2,12 +2,13 @@
 ghost use Rattle.std.specs.Prelude.{◌≡◌, ◌<◌};
 ghost use Rattle.phy.specs.Abilities.{one};
 ghost use Rattle.phy.specs.Record.{register_count, others_implemented, register_set_right, unimplemented_zero, fastest, derived_control, words_right, defaults_right};
+ghost use Rattle.phy.specs.Fields.{record_of};
 ghost use Rattle.verdict.specs.Refusal.{finding};
-ghost use Rattle.board.specs.Record.{addresses_of, fault_of, record_in};
+ghost use Rattle.board.specs.Record.{fault_of, record_in};
 
-use crate::Board;
-use crate::bits::Register;
-use phy::{Control, ExtendedStatus, Own, Status};
+use crate::{Board, register};
+use phy::{Control, ExtendedStatus, Own, Phy, Status};
+use std::array;
 use verdict::Fault;
 
 // What a record of the board file says of its PHY.
@@ -30,7 +31,7 @@ fn has(implemented: u32, register: usize) -> bool
 fn others_implemented(implemented: u32) -> bool
     ensures { result ≡ others_implemented implemented }
 {
-    implemented & Register::OTHERS != 0
+    implemented & register::OTHERS != 0
 }
 
 // The fastest speed that is able, as bits 6 and 13 of register 0.
@@ -38,28 +39,29 @@ fn fastest(status: u16, extended: u16) -> u16
     ensures { result ≡ fastest status extended }
 {
     if ExtendedStatus::able_1000(extended) {
-        return Control::THOUSAND;
+        Control::THOUSAND
+    } else if Status::able_100(status) {
+        Control::HUNDRED
+    } else {
+        Control::TEN
     }
-    if Status::able_100(status) {
-        return Control::HUNDRED;
-    }
-    Control::TEN
 }
 
 // The default of register 0, bit 10 apart.
 fn derived_control(status: u16, extended: u16) -> u16
     ensures { result ≡ derived_control status extended }
 {
-    let speed = fastest(status, extended);
     let negotiation = if status & Status::AUTO_NEGOTIATION_ABILITY != 0 {
         Control::AUTO_NEGOTIATION_ENABLE
     } else {
         0
     };
-    if Status::able_half(status, extended) {
-        return speed + negotiation;
-    }
-    speed + (negotiation + Control::FULL_DUPLEX)
+    let duplex = if Status::able_half(status, extended) {
+        0
+    } else {
+        Control::FULL_DUPLEX
+    };
+    fastest(status, extended) + (negotiation + duplex)
 }
 
 // Check 6 on the defaults of registers 0, 1 and 15.
@@ -74,15 +76,22 @@ fn words_right(control: u16, status: u16, extended: u16) -> bool
             & (able & (control == derived + (control & Control::ISOLATE))))
 }
 
-// The address at each place: a few bytes to look through in place of a whole board.
-pub(crate) fn addresses_of(board: Board) -> [u8; 32]
-    ensures { result ≡ addresses_of board.phys }
-{
-    let mut addresses = [0u8; 32];
-    for i in 0..Board::PLACES {
-        addresses[i] = board.phys[i].own.address;
+impl From<Phy> for Record {
+    ghost from_gives = { λ phy r. record_in r ≡ record_of phy };
+
+    fn from(phy: Phy) -> Record {
+        let Phy {
+            own,
+            defaults,
+            masks,
+            ..
+        } = phy;
+        Record {
+            own,
+            defaults,
+            masks,
+        }
     }
-    addresses
 }
 
 impl Record {
@@ -91,28 +100,25 @@ impl Record {
         ensures { result ≡ register_set_right self.own.implemented self.defaults }
     {
         let implemented = self.own.implemented;
-        let status = self.defaults[Register::STATUS];
-        let basic = has(implemented, Register::CONTROL)
-            & (has(implemented, Register::STATUS)
-                & (!has(implemented, Register::MMD_CONTROL)
-                    & !has(implemented, Register::MMD_DATA)));
-        let extended_status = has(implemented, Register::EXTENDED_STATUS)
+        let status = self.defaults[register::STATUS];
+        let basic = has(implemented, register::CONTROL)
+            & (has(implemented, register::STATUS)
+                & (!has(implemented, register::MMD_CONTROL)
+                    & !has(implemented, register::MMD_DATA)));
+        let extended_status = has(implemented, register::EXTENDED_STATUS)
             == (status & Status::EXTENDED_STATUS != 0);
         let extended = (status & Status::EXTENDED_CAPABILITY != 0)
             == others_implemented(implemented);
         basic & (extended_status & extended)
     }
 
-    // Check 6 on registers that are not implemented. A loop over the registers gathers their tests and stops at none, so that it
-    // is compiled to tests of eight registers at a time.
+    // Check 6 on registers that are not implemented.
     fn unimplemented_zero(self) -> bool
         ensures { result ≡ unimplemented_zero self.own.implemented self.defaults self.masks }
     {
-        let mut zero = true;
-        for r in 0..Register::COUNT {
-            zero &= has(self.own.implemented, r) | ((self.defaults[r] == 0) & (self.masks[r] == 0));
-        }
-        zero
+        register::every(|r| {
+            has(self.own.implemented, r) | ((self.defaults[r] == 0) & (self.masks[r] == 0))
+        })
     }
 
     // Check 6.
@@ -121,15 +127,15 @@ impl Record {
     {
         let idle = self.unimplemented_zero();
         let words = words_right(
-            self.defaults[Register::CONTROL],
-            self.defaults[Register::STATUS],
-            self.defaults[Register::EXTENDED_STATUS],
+            self.defaults[register::CONTROL],
+            self.defaults[register::STATUS],
+            self.defaults[register::EXTENDED_STATUS],
         );
-        let fixed = (self.masks[Register::CONTROL] == 0)
-            & ((self.masks[Register::STATUS] == 0)
-                & ((self.masks[Register::IDENTIFIER_HIGH] == 0)
-                    & ((self.masks[Register::IDENTIFIER_LOW] == 0)
-                        & (self.masks[Register::EXTENDED_STATUS] == 0))));
+        let fixed = (self.masks[register::CONTROL] == 0)
+            & ((self.masks[register::STATUS] == 0)
+                & ((self.masks[register::IDENTIFIER_HIGH] == 0)
+                    & ((self.masks[register::IDENTIFIER_LOW] == 0)
+                        & (self.masks[register::EXTENDED_STATUS] == 0))));
         idle & (fixed & words)
     }
 

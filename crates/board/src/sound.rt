@@ -1,24 +1,27 @@
 // What makes a PHY sound beside its record, and a place blank (document 01, "A sound board").
 ghost use Rattle.std.specs.Prelude.{◌≡◌};
 ghost use Rattle.board.specs.Check.{passes_as};
-ghost use Rattle.phy.specs.Sound.{control_right, registers_stand, others_at_default, reset_stands, follower_sound, in_own_read, phy_sound, zeros, hunts_fresh, is_blank, blank};
+ghost use Rattle.phy.specs.Sound.{stands_outside, control_right, registers_stand, others_at_default, reset_stands, follower_sound, in_own_read, phy_sound, hunts_fresh, is_blank, blank};
 
-use crate::bits::Register;
-use crate::bits;
 use crate::record::Record;
+use crate::register;
 use phy::{Control, Own, Phy, Status};
 use wire::{Follower, Header};
+
+// Whether the bits outside a mask stand as in another word.
+fn stands_outside(mask: u16, value: u16, default: u16) -> bool
+    ensures { result ≡ stands_outside mask value default }
+{
+    ((value ^ default) | mask) == mask
+}
 
 // Bits outside masks stand at default in registers above 1.
 fn registers_stand(phy: Phy) -> bool
     ensures { result ≡ registers_stand phy }
 {
-    let mut all = true;
-    for r in 0..Register::COUNT {
-        let stands = bits::stands_outside(phy.masks[r], phy.registers[r], phy.defaults[r]);
-        all &= (r <= Register::STATUS) | stands;
-    }
-    all
+    register::every(|r| {
+        (r <= register::STATUS) | stands_outside(phy.masks[r], phy.registers[r], phy.defaults[r])
+    })
 }
 
 // What register 0 is asked, by its word and those of registers 1 and 15.
@@ -43,11 +46,7 @@ fn control_right(control: u16, status: u16, extended: u16) -> bool
 fn others_at_default(phy: Phy) -> bool
     ensures { result ≡ others_at_default phy }
 {
-    let mut all = true;
-    for r in 0..Register::COUNT {
-        all &= (r == Register::CONTROL) | (phy.registers[r] == phy.defaults[r]);
-    }
-    all
+    phy.registers[1..] == phy.defaults[1..]
 }
 
 // In reset all else stands at default with the link down.
@@ -57,47 +56,36 @@ fn reset_stands(phy: Phy) -> bool
     if !phy.in_reset() {
         return true;
     }
-    let stands = bits::stands_outside(
+    let stands = stands_outside(
         Control::RESET,
-        phy.registers[Register::CONTROL],
-        phy.defaults[Register::CONTROL],
+        phy.registers[register::CONTROL],
+        phy.defaults[register::CONTROL],
     );
     stands & (others_at_default(phy) & !phy.link)
 }
 
 // Hunting with 0 to 32 ones, or inside a frame with 1 to 31 bits, the first 0.
+#[tactic(auto, unfolding(phy::specs::Sound::follower_sound))]
 fn follower_sound(follower: Follower) -> bool
     ensures { result ≡ follower_sound follower }
 {
     match follower {
         Follower::Hunting(ones) => ones <= Follower::MOST_ONES,
-        Follower::Inside(seen, bits) => {
-            if seen < 1 {
-                return false;
-            }
-            if Follower::MOST_SEEN < seen {
-                return false;
-            }
-            bits >> (seen - 1) == 0
-        }
+        Follower::Inside(seen @ 1..=Follower::MOST_SEEN, bits) => bits >> (seen - 1) == 0,
+        Follower::Inside(_, _) => false,
     }
 }
 
 // Whether a PHY is in an own read of an implemented register, from the 14th bit on.
+#[tactic(auto, unfolding(phy::specs::Sound::in_own_read))]
 fn in_own_read(own: Own, follower: Follower) -> bool
     ensures { result ≡ in_own_read own follower }
 {
     match follower {
-        Follower::Hunting(_) => false,
-        Follower::Inside(seen, bits) => {
-            if seen < Phy::HEADER {
-                return false;
-            }
-            if Follower::MOST_SEEN < seen {
-                return false;
-            }
-            own.answers(Header::from(bits >> (seen - Phy::HEADER)))
+        Follower::Inside(seen @ Phy::HEADER..=Follower::MOST_SEEN, bits) => {
+            own.answers(Header::of(bits >> (seen - Phy::HEADER)))
         }
+        _ => false,
     }
 }
 
@@ -105,12 +93,12 @@ fn in_own_read(own: Own, follower: Follower) -> bool
 pub(crate) fn phy_sound(phy: Phy) -> bool
     ensures { result ≡ phy_sound phy }
 {
-    let control = phy.registers[Register::CONTROL];
-    let status = phy.registers[Register::STATUS];
+    let control = phy.registers[register::CONTROL];
+    let status = phy.registers[register::STATUS];
     let follower = phy.follower;
     let registers = registers_stand(phy);
-    let status_stands = bits::stands_outside(Status::HELD, status, phy.defaults[Register::STATUS]);
-    let control_stands = control_right(control, status, phy.registers[Register::EXTENDED_STATUS]);
+    let status_stands = stands_outside(Status::HELD, status, phy.defaults[register::STATUS]);
+    let control_stands = control_right(control, status, phy.registers[register::EXTENDED_STATUS]);
     let reset = reset_stands(phy);
     let complete = (status & Status::AUTO_NEGOTIATION_COMPLETE == 0)
         | ((control & Control::AUTO_NEGOTIATION_ENABLE != 0)
@@ -122,38 +110,24 @@ pub(crate) fn phy_sound(phy: Phy) -> bool
         & (status_stands & (control_stands & (reset & (complete & (link & (follows & captured))))))
 }
 
-// Whether all words are zero.
-fn zeros(words: [u16; 32]) -> bool
-    ensures { result ≡ zeros words }
-{
-    words == [0; 32]
-}
-
 // Hunting with 0 ones.
 fn hunts_fresh(follower: Follower) -> bool
     ensures { result ≡ hunts_fresh follower }
 {
-    match follower {
-        Follower::Hunting(ones) => ones == 0,
-        Follower::Inside(_, _) => false,
-    }
+    matches!(follower, Follower::Hunting(0))
 }
 
 // Whether a place is blank: numbers zero, hunting with 0 ones, link down.
 pub(crate) fn is_blank(phy: Phy) -> bool
     ensures { result ≡ is_blank phy }
 {
-    let d = phy.defaults;
-    let m = phy.masks;
-    let w = phy.registers;
-    let defaults = zeros(d);
-    let masks = zeros(m);
-    let registers = zeros(w);
-    let follower = phy.follower;
-    let fresh = hunts_fresh(follower);
+    let zeros = [0; 32];
     (phy.own.address == 0)
         & ((phy.own.implemented == 0)
-            & (defaults & (masks & (registers & (!phy.link & (fresh & (phy.captured == 0)))))))
+            & ((phy.defaults == zeros)
+                & ((phy.masks == zeros)
+                    & ((phy.registers == zeros)
+                        & (!phy.link & (hunts_fresh(phy.follower) & (phy.captured == 0)))))))
 }
 
 // A place with no PHY.
@@ -172,10 +146,5 @@ pub(crate) fn blank() -> Phy
 pub(crate) fn record_passes(phy: Phy, used: bool) -> bool
     ensures { result ≡ passes_as used phy }
 {
-    let record = Record {
-        own: phy.own,
-        defaults: phy.defaults,
-        masks: phy.masks,
-    };
-    record.check(0, used).is_ok()
+    Record::from(phy).check(0, used).is_ok()
 }

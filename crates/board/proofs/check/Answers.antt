@@ -1,91 +1,136 @@
 -- The places are asked in order, those with a PHY and then the blank ones, and the first at fault refuses.
-use Prim.Native.Nat.{ℕ, ◌≤◌, ◌<◌}
-use mathlib.Core.Bool.{Bool, true, false, ◌&&◌}
+use Prim.Native.Nat.{ℕ, ◌+◌, ◌-◌, ◌≤◌, ◌<◌}
+use mathlib.Core.Bool.{Bool, true, false, not, ◌&&◌, cond}
 use mathlib.Core.List.{List}
-use mathlib.Core.Path.{◌≡◌, ap, ap₂, sym, ◌∙◌}
+use mathlib.Core.Path.{◌≡◌, refl, ap, ap₂, sym, ◌∙◌}
 use native.Mathlib.Omega.{arith}
-use lib.ListN.{get_or, set}
-use borrow.Author.Tests.{lt-ltb, le-ltb, lt-leb, le-leb}
+use lib.ListN.{length, get_or, set, take, drop}
+use lib.Seq.{get_or-drop}
+use lib.Dec.{ltb}
+use borrow.Author.Tests.{lt-ltb, le-ltb, lt-leb, le-leb, ltb-false}
 use borrow.Author.Rules.{rules}
-use Rattle.verdict.specs.Refusal.{Refused}
-use Rattle.verdict.proofs.Checks.{next, stop, finish}
-use Rattle.phy.specs.Sound.{phy_sound, is_blank}
+use Rattle.std.specs.Prelude.{Some, None}
+use Rattle.std.specs.List.{position, position_or_len}
+use Rattle.std.proofs.lemmas.List.{length-take, length-drop, get_or-take, take_all}
+use Rattle.std.proofs.lemmas.Iterator.{YieldsList-from_slice}
+use Rattle.std.proofs.lemmas.Iterator.Search.{position_from_yields_List}
+use Rattle.std.proofs.lemmas.List.Quantifiers.{position-Some}
+use Rattle.std.proofs.lemmas.List.Sums.{fails_before_first}
+use Rattle.verdict.specs.Refusal.{Refused, not_sound, ◌when◌}
+use Rattle.verdict.proofs.Checks.{FirstAtFault, next, stop, first-refused, all-pass-done}
+use Rattle.phy.specs.declared.Phy.{Phy}
+use Rattle.phy.specs.Sound.{phy_sound, is_blank, nowhere}
 use Rattle.board.specs.declared.Board.{Board}
 use Rattle.board.specs.Record.{has_address, taken_by}
 use Rattle.board.specs.Check.{place_at, passes_as, record_passes, place_sound, place_fault, checked}
 use Rattle.board.proofs.Taken.{taken_none, taken_at, taken_next}
 use Rattle.board.proofs.check.Goals as goal
 
--- what is asked of a place with a PHY is what its board says of it: who has its address before it is told by the table
-asked : (board : Board) (taken : List Bool) (k : ℕ) (passes sound : Bool) → k < board.count → (place_at board k).own.address < 256
-    → taken ≡ taken_by (λ i. (place_at board i).own.address) k
-    → passes ≡ passes_as (get_or taken (place_at board k).own.address false) (place_at board k)
-    → sound ≡ phy_sound (place_at board k)
-    → passes && sound ≡ place_sound board k
-unfolding place_sound record_passes has_address
-asked board taken k passes sound used byte so_far p s =
-    let phy = place_at board k in
-    let found = ap (λ table. get_or table phy.own.address false) so_far ∙ taken_at (λ i. (place_at board i).own.address) k phy.own.address byte in
-    rw (lt-leb board.count k used) (ap₂ ◌&&◌ (p ∙ ap (λ u. passes_as u phy) found) s)
+-- A place with a PHY, as the loop reads it: who has its address before it is told by the table
+module _ (board : Board) (taken : List Bool) (k : ℕ) (phy : Phy) (here : phy ≡ place_at board k) (byte : phy.own.address < 256) (so_far : taken ≡ taken_by (λ i. (place_at board i).own.address) k) where
+  -- what is asked of it is what its board says of it
+  asked : (passes sound : Bool) → k < board.count → passes ≡ passes_as (get_or taken phy.own.address false) phy → sound ≡ phy_sound phy → passes && sound ≡ place_sound board k
+  unfolding place_sound record_passes has_address
+  asked passes sound used p s =
+      let found = ap (λ table. get_or table phy.own.address false) so_far ∙ taken_at (λ i. (place_at board i).own.address) k phy.own.address byte in
+      rw (lt-leb board.count k used, ← here) (ap₂ ◌&&◌ (p ∙ ap (λ u. passes_as u phy) found) s)
 
--- and of a place with none
-blank-asked : (board : Board) (k : ℕ) (blank : Bool) → board.count ≤ k → blank ≡ is_blank (place_at board k) → blank ≡ place_sound board k
+  -- and its address is taken for those after it
+  more : set taken phy.own.address true ≡ taken_by (λ i. (place_at board i).own.address) (k + 1)
+  more =
+      let byte' : (place_at board k).own.address < 256 = (rw here at byte) in
+      ap₂ (λ (table : List Bool) (phy : Phy). set table phy.own.address true) so_far here ∙ taken_next (λ i. (place_at board i).own.address) k byte'
+
+-- A place with none
+blank_asked : (board : Board) (k : ℕ) → board.count ≤ k → is_blank (place_at board k) ≡ place_sound board k
 unfolding place_sound
-blank-asked board k blank unused b = rw (le-leb board.count k unused) b
+blank_asked board k unused = rw (le-leb board.count k unused)
+
+-- The places behind those with a PHY
+abbrev spare_places : Board → List Phy
+spare_places board = drop board.count board.phys
+
+abbrev not_blank : Phy → Bool
+not_blank phy = not (is_blank phy)
+
+module _ (board : Board) (long : length board.phys ≡ 32) where
+  unused : (k : ℕ) → place_fault board (board.count + k) ≡ not_sound when not_blank (get_or (spare_places board) k nowhere)
+  unused k =
+      rw (get_or-drop board.count board.phys k nowhere)
+      (ap (λ b. not_sound when not b) (sym (blank_asked board (board.count + k) (omega arith))))
+
+  passes_blank : (k i : ℕ) → i ≡ board.count + k → not_blank (get_or (spare_places board) k nowhere) ≡ false → place_fault board i ≡ 0
+  passes_blank k i place blank = ap (place_fault board) place ∙ unused k ∙ ap (λ b. not_sound when b) blank
+
+  -- the first that is not blank
+  first-unsound : (k : ℕ) → position not_blank (spare_places board) ≡ Some k → FirstAtFault (place_fault board) board.count (32 - board.count) 12 (board.count + k)
+  first-unsound k e =
+      let found = position-Some not_blank (spare_places board) k nowhere e in
+      record {
+        from = omega arith;
+        among = omega (arith, length-drop board.count board.phys, found.0);
+        at-fault = unused k ∙ ap (λ b. not_sound when b) found.1;
+        earlier-pass = λ i h l. passes_blank (i - board.count) i (omega arith) (found.2 (i - board.count) (omega arith));
+      }
+
+  -- or all are blank
+  none-unsound : position not_blank (spare_places board) ≡ None → (i : ℕ) → board.count ≤ i → i < board.count + (32 - board.count) → place_fault board i ≡ 0
+  none-unsound e i h l =
+      passes_blank (i - board.count) i (omega arith)
+      (fails_before_first not_blank (spare_places board) (i - board.count) nowhere (omega (arith, length-drop board.count board.phys, go (ltb (position_or_len not_blank (spare_places board)) (length (spare_places board))) refl e)))
+    where
+      go : (b : Bool) → ltb (position_or_len not_blank (spare_places board)) (length (spare_places board)) ≡ b → cond b (Some (position_or_len not_blank (spare_places board))) None ≡ None → length (spare_places board) ≤ position_or_len not_blank (spare_places board)
+      go true p e = cc
+      go false p e = ltb-false _ _ p
 
 pub returns-then-count-gt-PLACES : goal.returns-then-count-gt-PLACES
 unfolding checked
-returns-then-count-gt-PLACES c = rw (lt-ltb 32 _ c.if-count-gt-PLACES.true)
+returns-then-count-gt-PLACES c = rw (c.at.ensures, lt-ltb 32 _ c.if-count-gt-PLACES.true)
 
 pub loop-k-init : goal.loop-k-init
 unfolding checked
-loop-k-init c = (search rules, taken_none _, rw (le-ltb 32 _ c.if-count-gt-PLACES.false))
+loop-k-init c = (taken_none _, rw (le-ltb 32 _ c.if-count-gt-PLACES.false))
 
 pub returns-then-not-passes-phy_sound : goal.returns-then-not-passes-phy_sound
 returns-then-not-passes-phy_sound c =
     let board = c.args.board in
     let loop = c.loop-k in
     let fault = place_fault board in
-    let byte : (place_at board loop.k).own.address < 256 = search rules in
-    let found = asked board loop.taken loop.k _ _ (omega arith) byte loop.invariant.1 c.record_passes-passes.ensures c.phy_sound.ensures in
+    let used : loop.k < board.count = omega (arith, length-take board.count board.phys) in
+    let byte : (get_or (take board.count board.phys) loop.k nowhere).own.address < 256 = search rules in
+    let found = asked board loop.taken loop.k _ (get_or-take board.count board.phys loop.k nowhere used) byte loop.invariant.0 _ _ used c.record_passes-passes.ensures c.phy_sound.ensures in
     let fails : fault loop.k ≡ 12 = rw (← found, c.if-not-passes-phy_sound.true) in
-    sym (loop.invariant.2 ∙ stop fault _ 32 loop.k (omega arith) (λ none. omega (arith, fails, none)) ∙ ap (λ f. Refused f loop.k) fails)
+    rw c.at-then-not-passes-phy_sound.ensures
+    (sym (loop.invariant.1 ∙ stop fault _ 32 loop.k (omega arith) (λ none. omega (arith, fails, none)) ∙ ap (λ f. Refused f loop.k) fails))
 
 pub loop-k-preserved : goal.loop-k-preserved
 loop-k-preserved c =
     let board = c.args.board in
     let loop = c.loop-k in
     let fault = place_fault board in
-    let byte : (place_at board loop.k).own.address < 256 = search rules in
-    let found = asked board loop.taken loop.k _ _ (omega arith) byte loop.invariant.1 c.record_passes-passes.ensures c.phy_sound.ensures in
-    let passes : fault loop.k ≡ 0 = rw (← found, c.if-not-passes-phy_sound.false) in (
-      search rules,
-      ap (λ table. set table (place_at board loop.k).own.address true) loop.invariant.1 ∙ taken_next (λ i. (place_at board i).own.address) loop.k byte,
-      loop.invariant.2 ∙ next fault _ 32 loop.k (omega arith) passes,
-    )
+    let used : loop.k < board.count = omega (arith, length-take board.count board.phys) in
+    let here = get_or-take board.count board.phys loop.k nowhere used in
+    let byte : (get_or (take board.count board.phys) loop.k nowhere).own.address < 256 = search rules in
+    let found = asked board loop.taken loop.k _ here byte loop.invariant.0 _ _ used c.record_passes-passes.ensures c.phy_sound.ensures in
+    let passes : fault loop.k ≡ 0 = rw (← found, c.if-not-passes-phy_sound.false) in
+    (more board loop.taken loop.k _ here byte loop.invariant.0, loop.invariant.1 ∙ next fault _ 32 loop.k (omega arith) passes)
 
-pub loop-place-init : goal.loop-place-init
-loop-place-init c =
-    let all : c.loop-k.k ≡ c.args.board.count = omega arith in
-    (search rules, search rules, rw all at c.loop-k.invariant.2)
-
-pub returns-then-not-is_blank : goal.returns-then-not-is_blank
-returns-then-not-is_blank c =
+pub returns-in-Some : goal.returns-in-Some
+returns-in-Some c =
     let board = c.args.board in
-    let loop = c.loop-place in
-    let fault = place_fault board in
-    let found = blank-asked board loop.place _ loop.invariant.0 c.is_blank.ensures in
-    let fails : fault loop.place ≡ 12 = rw (← found, c.if-not-is_blank.true) in
-    sym (loop.invariant.2 ∙ stop fault _ 32 loop.place (search rules) (λ none. omega (arith, fails, none)) ∙ ap (λ f. Refused f loop.place) fails)
+    let long : length board.phys ≡ 32 = search rules in
+    let all : c.loop-k.k ≡ board.count = omega (arith, length-take board.count board.phys) in
+    let found : c.position.result ≡ position not_blank (spare_places board) =
+    position_from_yields_List not_blank _ _ _ c.position.ensures.ran (YieldsList-from_slice _ (c.iter-spare.ensures.rest ∙ take_all _ _ (rw length-drop (omega arith)))) (λ x b q k. search rules) in
+    let first = first-unsound board long c.in-Some.k (sym found ∙ c.in-Some.is) in
+    rw c.at-in-Some.ensures (sym ((rw all at c.loop-k.invariant.1) ∙ first-refused (place_fault board) _ board.count _ 11 _ first))
 
-pub loop-place-preserved : goal.loop-place-preserved
-loop-place-preserved c =
+pub returns-in-None : goal.returns-in-None
+returns-in-None c =
     let board = c.args.board in
-    let loop = c.loop-place in
-    let fault = place_fault board in
-    let found = blank-asked board loop.place _ loop.invariant.0 c.is_blank.ensures in
-    let passes : fault loop.place ≡ 0 = rw (← found, c.if-not-is_blank.false) in
-    (search rules, search rules, loop.invariant.2 ∙ next fault _ 32 loop.place (search rules) passes)
-
-pub returns : goal.returns
-returns c = sym (c.loop-place.invariant.2 ∙ finish _ _ 32 _ c.loop-place-test.false)
+    let long : length board.phys ≡ 32 = search rules in
+    let all : c.loop-k.k ≡ board.count = omega (arith, length-take board.count board.phys) in
+    let found : c.position.result ≡ position not_blank (spare_places board) =
+    position_from_yields_List not_blank _ _ _ c.position.ensures.ran (YieldsList-from_slice _ (c.iter-spare.ensures.rest ∙ take_all _ _ (rw length-drop (omega arith)))) (λ x b q k. search rules) in
+    let none = none-unsound board long (sym found ∙ c.in-None.is) in
+    sym ((rw all at c.loop-k.invariant.1) ∙ all-pass-done (place_fault board) _ board.count _ none)

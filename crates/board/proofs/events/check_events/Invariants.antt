@@ -1,5 +1,5 @@
 -- The records are asked in order, and the first at fault refuses.
-use Prim.Native.Nat.{ℕ, ◌≤◌, ◌-◌}
+use Prim.Native.Nat.{ℕ, ◌-◌}
 use mathlib.Core.Bool.{Bool, false}
 use mathlib.Core.List.{List}
 use mathlib.Core.Path.{◌≡◌}
@@ -15,8 +15,5 @@ fault_by there events last k = event_fault_as (get_or there (event_address event
 
 abbrev pub invariant-loop-k : goal.invariant-loop-k
 invariant-loop-k l =
-    (l.k ≤ l.count) × (l.before ≡ clock_before l.events l.k)
+    (l.before ≡ clock_before l.events l.k)
     × (file_verdict 4 256 (fault_by l.there l.events l.last) l.events ≡ in_order (fault_by l.there l.events l.last) l.k (l.count - l.k) (Done l.count))
-
-abbrev pub decreases-loop-k : goal.decreases-loop-k
-decreases-loop-k l = l.count - l.k

@@ -1,5 +1,5 @@
 -- The records are asked in order; each that passes fills the next place, and the first at fault refuses.
-use Prim.Native.Nat.{◌≤◌, ◌-◌}
+use Prim.Native.Nat.{◌-◌}
 use mathlib.Core.Path.{◌≡◌}
 use lib.ListN.{replicate}
 use Rattle.verdict.specs.Refusal.{Done}
@@ -12,10 +12,6 @@ use Rattle.board.proofs.file.load.Given as goal
 
 abbrev pub invariant-loop-k : goal.invariant-loop-k
 invariant-loop-k l =
-    (l.k ≤ l.count)
-    × (l.phys ≡ filled (phy_at l.file) (replicate 32 blank) l.k)
+    (l.phys ≡ filled (phy_at l.file) (replicate 32 blank) l.k)
     × (l.taken ≡ taken_by (address_at l.file) l.k)
     × (board_verdict l.file ≡ in_order (record_fault l.file) l.k (l.count - l.k) (Done l.count))
-
-abbrev pub decreases-loop-k : goal.decreases-loop-k
-decreases-loop-k l = l.count - l.k

@@ -20,7 +20,7 @@ stands f out i d within = rw (drop-cons out i d within) (get_or_at (tabulate i f
 
 pub loop-r-init : goal.loop-r-init
 unfolding tabulate
-loop-r-init c = (search rules, refl, below_none _)
+loop-r-init c = (refl, below_none _)
 
 pub loop-r-preserved : goal.loop-r-preserved
 loop-r-preserved c =
@@ -28,28 +28,29 @@ loop-r-preserved c =
     let loop = c.loop-r in
     let at = c.args.start + loop.r * 2 in
     let here : Bytes file at = (omega (arith, c.type_inv.file at), omega (arith, c.type_inv.file (at + 1))) in
-    (search rules, fill _ _ loop.words loop.r _ (search rules) loop.invariant.1 refl, below_more _ loop.r loop.invariant.2 here)
+    (fill _ _ loop.words loop.r _ (search rules) loop.invariant.0 (search rules), below_more _ loop.r loop.invariant.1 here)
 
-pub loop-i-init : goal.loop-i-init
+pub loop-word-init : goal.loop-word-init
 unfolding tabulate
-loop-i-init c =
+loop-word-init c =
     let all : c.loop-r.r ≡ 32 = omega arith in
-    (search rules, (rw all at c.loop-r.invariant.1) ∙ append-nil _)
+    (rw all at c.loop-r.invariant.0) ∙ append-nil _
 
-pub loop-i-preserved : goal.loop-i-preserved
-loop-i-preserved c =
+pub loop-word-preserved : goal.loop-word-preserved
+loop-word-preserved c =
     let file = c.args.file.now in
-    let loop = c.loop-i in
-    let at = c.args.start + loop.i * 2 in
-    let pair : get_or loop.words loop.i 0 ≡ pair_at file at =
-    ap (λ words. get_or words loop.i 0) loop.invariant.1
-    ∙ stands _ _ _ _ (rw length-tabulate (search rules))
-    ∙ get_or-tabulate 32 _ 0 _ (search rules) in
-    let pair-bytes : Bytes file at = c.loop-r.invariant.2 loop.i (search rules) in
-    (search rules, fill _ _ loop.words loop.i _ (rw length-tabulate (search rules)) loop.invariant.1 (omega (arith, pair, pair-bytes)))
+    let loop = c.loop-word in
+    let at = c.args.start + loop.word-index * 2 in
+    let within : loop.word-index < 32 = search rules in
+    let pair : get_or loop.word-items loop.word-index 0 ≡ pair_at file at =
+    ap (λ words. get_or words loop.word-index 0) loop.invariant
+    ∙ stands _ _ _ _ (rw length-tabulate within)
+    ∙ get_or-tabulate 32 _ 0 _ within in
+    let pair-bytes : Bytes file at = c.loop-r.invariant.1 loop.word-index (search rules) in
+    fill _ _ loop.word-items loop.word-index _ (rw length-tabulate within) loop.invariant (omega (arith, c.swap_bytes.ensures, pair, pair-bytes))
 
 pub returns : goal.returns
 unfolding words_at tabulate
 returns c =
-    let all : c.loop-i.i ≡ 32 = omega arith in
-    (rw all at c.loop-i.invariant.1) ∙ append-nil _
+    let all : c.loop-word.word-index ≡ 32 = omega arith in
+    (rw all at c.loop-word.invariant) ∙ append-nil _

@@ -1,7 +1,7 @@
 -- A loop puts the pairs of bytes, low byte first, and a loop turns each into its word.
 use mathlib.Core.Path.{◌≡◌}
 use mathlib.Core.List.{List}
-use Prim.Native.Nat.{ℕ, ◌+◌, ◌*◌, ◌≤◌, ◌<◌, ◌-◌}
+use Prim.Native.Nat.{ℕ, ◌+◌, ◌*◌, ◌<◌}
 use lib.ListN.{replicate}
 use Rattle.verdict.specs.Output.{tabulate}
 use Rattle.verdict.specs.File.{byte_at, word_at}
@@ -17,16 +17,8 @@ Bytes file i = (byte_at file i < 256) × (byte_at file (i + 1) < 256)
 
 abbrev pub invariant-loop-r : goal.invariant-loop-r
 invariant-loop-r l =
-    (l.r ≤ 32)
-    × (l.words ≡ filled (λ i. pair_at l.file (l.start + i * 2)) (replicate 32 0) l.r)
+    (l.words ≡ filled (λ i. pair_at l.file (l.start + i * 2)) (replicate 32 0) l.r)
     × ((k : ℕ) → k < l.r → Bytes l.file (l.start + k * 2))
 
-abbrev pub decreases-loop-r : goal.decreases-loop-r
-decreases-loop-r l = 32 - l.r
-
-abbrev pub invariant-loop-i : goal.invariant-loop-i
-invariant-loop-i l =
-    (l.i ≤ 32) × (l.words ≡ filled (λ k. word_at l.file (l.start + k * 2)) (tabulate 32 (λ k. pair_at l.file (l.start + k * 2))) l.i)
-
-abbrev pub decreases-loop-i : goal.decreases-loop-i
-decreases-loop-i l = 32 - l.i
+abbrev pub invariant-loop-word : goal.invariant-loop-word
+invariant-loop-word l = l.word-items ≡ filled (λ k. word_at l.file (l.start + k * 2)) (tabulate 32 (λ k. pair_at l.file (l.start + k * 2))) l.word-index

@@ -2,24 +2,24 @@
 use Rattle.board.specs.Record.{fault_of}
 use Rattle.board.proofs.record.Record.check.Goals as goal
 
-pub returns-then-own-zero : goal.returns-then-own-zero
+pub returns-then-self-zero : goal.returns-then-self-zero
 unfolding fault_of
-returns-then-own-zero c = rw c.if-own-zero.true
+returns-then-self-zero c = rw c.if-self-zero.true
 
 pub returns-then-used : goal.returns-then-used
 unfolding fault_of
-returns-then-used c = rw (c.if-own-zero.false, c.if-used.true)
+returns-then-used c = rw (c.if-self-zero.false, c.if-used.true)
 
 pub returns-then-not-register_set_right : goal.returns-then-not-register_set_right
 unfolding fault_of
 returns-then-not-register_set_right c =
-    rw (c.if-own-zero.false, c.if-used.false, ← c.register_set_right.ensures, c.if-not-register_set_right.true)
+    rw (c.if-self-zero.false, c.if-used.false, ← c.register_set_right.ensures, c.if-not-register_set_right.true)
 
 pub returns-then-not-defaults_right : goal.returns-then-not-defaults_right
 unfolding fault_of
 returns-then-not-defaults_right c =
     rw (
-      c.if-own-zero.false,
+      c.if-self-zero.false,
       c.if-used.false,
       ← c.register_set_right.ensures,
       c.if-not-register_set_right.false,
@@ -31,7 +31,7 @@ pub returns : goal.returns
 unfolding fault_of
 returns c =
     rw (
-      c.if-own-zero.false,
+      c.if-self-zero.false,
       c.if-used.false,
       ← c.register_set_right.ensures,
       c.if-not-register_set_right.false,
