@@ -1,15 +1,16 @@
--- What a record's parse says of its checks' finding, and who is among the first PHYs.
+-- What a record's parse says of its checks' finding, and who has an address.
 use Prim.Native.Nat.{ℕ, zero, suc, ◌≤◌}
-use mathlib.Core.Path.{◌≡◌, refl, ap}
+use mathlib.Core.Path.{◌≡◌, refl, ap, ◌∙◌}
 use mathlib.Core.List.{List}
 use lib.Dec.{eqb}
-use lib.ListN.{length, take}
+use lib.ListN.{length, get_or, take, length-map, get_or-map}
 use Rattle.std.proofs.lemmas.List.{length-take-le, get_or-take}
 use Rattle.verdict.specs.Refusal.{Good, judged_by, refusal_of}
 use Rattle.phy.specs.declared.Phy.{Phy}
+use Rattle.phy.specs.Record.{any}
 use Rattle.phy.specs.Sound.{nowhere}
 use Rattle.phy.proofs.Every.{any-ext}
-use Rattle.board.specs.Record.{has_address}
+use Rattle.board.specs.Record.{has_address, addresses_of}
 
 module _ {A : Type 0} where
   -- the number that was found
@@ -22,8 +23,12 @@ module _ {A : Type 0} where
   good-own zero own good e = cc
   good-own (suc c) own good e = cc
 
--- who has an address among the first n PHYs is told by these alone
-pub among-first : (phys : List Phy) (n address : ℕ) → n ≤ length phys → has_address (take n phys) (length (take n phys)) address ≡ has_address phys n address
+-- who has an address is told by the addresses alone, of the first n PHYs by the first n
+pub among-first : (phys : List Phy) (n address : ℕ) → n ≤ length phys
+    → any (length (take n (addresses_of phys))) (λ i. eqb (get_or (take n (addresses_of phys)) i 0) address) ≡ has_address phys n address
 unfolding has_address
 among-first phys n address few =
-    rw (length-take-le n phys few) (any-ext n _ _ (λ i below. ap (λ (phy : Phy). eqb phy.own.address address) (get_or-take n phys i nowhere below)))
+    let addresses = addresses_of phys in
+    let long : n ≤ length addresses = rw length-map few in
+    rw (length-take-le n addresses long)
+    (any-ext n _ _ (λ i below. ap (λ a. eqb a address) (get_or-take n addresses i 0 below ∙ get_or-map (λ (phy : Phy). phy.own.address) phys i nowhere)))

@@ -1,12 +1,13 @@
 // The event file (document 01, "Records": "Events, 4 bytes, 0 to 256: clock number (2 bytes), PHY address, code").
-ghost use Rattle.std.specs.Prelude.{◌≡◌, false, ℕ, ◌+◌, ◌*◌, ◌<◌, length, get_or};
+ghost use Rattle.std.specs.Prelude.{◌≡◌, false, ℕ, ◌+◌, ◌*◌, ◌<◌, length, get_or, eqb};
 ghost use Rattle.verdict.specs.File.{byte_at};
 ghost use Rattle.verdict.specs.Refusal.{said, judged, judged_by};
-ghost use Rattle.board.specs.Record.{has_address};
+ghost use Rattle.phy.specs.Record.{any};
+ghost use Rattle.board.specs.Record.{addresses_of};
 ghost use Rattle.board.specs.Events.{event_record, event_clock, event_address, event_code, clock_before, event_fault_as, events_verdict};
 
 use crate::Board;
-use phy::{Event, Phy};
+use phy::Event;
 use verdict::{Fault, Refusal};
 
 // A byte of the event record at index k; past the file's end a byte reads 0.
@@ -39,13 +40,25 @@ pub fn code_of(events: &[u8], k: usize) -> u8
     byte_of(events, k, 3)
 }
 
-// Which addresses these PHYs have: a table to ask for each event, in place of a walk.
-fn table_of(phys: &[Phy]) -> [bool; 256]
-    ensures { (address : ℕ) → address < 256 → get_or result address false ≡ has_address phys.now (length phys.now) address }
+// The address at each place: a few bytes to look through in place of a whole board. The board is read and not lent, since a loan of
+// it, such as `from_fn` takes, would hold a second board.
+fn addresses_of(board: Board) -> [u8; 32]
+    ensures { result ≡ addresses_of board.phys }
+{
+    let mut addresses = [0; 32];
+    for (i, address) in addresses.iter_mut().enumerate() {
+        *address = board.phys[i].own.address;
+    }
+    addresses
+}
+
+// Which addresses are among these: a table to ask for each event, in place of a walk.
+fn table_of(addresses: &[u8]) -> [bool; 256]
+    ensures { (address : ℕ) → address < 256 → get_or result address false ≡ any (length addresses.now) (λ i. eqb (get_or addresses.now i 0) address) }
 {
     let mut there = [false; 256];
-    for phy in phys {
-        there[phy.own.address as usize] = true;
+    for address in addresses {
+        there[*address as usize] = true;
     }
     there
 }
@@ -78,7 +91,8 @@ pub fn check_events(board: Board, events: &[u8], last: usize) -> Result<usize, R
     if Board::MOST_EVENTS < count {
         return Err(Fault::TooMany.at(0));
     }
-    let there = table_of(&board.phys[..board.count.min(Board::PLACES)]);
+    let addresses = addresses_of(board);
+    let there = table_of(&addresses[..board.count.min(Board::PLACES)]);
     let mut before: u16 = 0;
     for k in 0..count {
         let address = address_of(events, k) as usize;

@@ -59,6 +59,7 @@ impl Record {
 }
 
 // A refused load hands back the board of no PHYs, made of the load's own blank places: a second board would double its stack.
+#[tactic(auto, unfolding(crate::specs::Load::board_of, verdict::specs::Output::tabulate))]
 fn refused(refusal: Refusal, phys: [Phy; 32]) -> Outcome
     requires { phys ≡ replicate places blank }
     ensures { told result ≡ refused_load (number_of refusal.fault) refusal.index }

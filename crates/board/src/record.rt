@@ -1,4 +1,5 @@
-// One board record: checks 3 to 6 (document 01, "Board checks").
+// One board record: checks 3 to 6 (document 01, "Board checks"). Tests of words are joined by `&` and `|`, which ask both sides and
+// make no branch.
 ghost use Rattle.std.specs.Prelude.{◌≡◌, ◌<◌};
 ghost use Rattle.phy.specs.Abilities.{one};
 ghost use Rattle.phy.specs.Record.{register_count, others_implemented, register_set_right, unimplemented_zero, fastest, derived_control, words_right, defaults_right};
@@ -61,19 +62,21 @@ fn derived_control(status: u16, extended: u16) -> u16
     } else {
         Control::FULL_DUPLEX
     };
-    fastest(status, extended) + (negotiation + duplex)
+    fastest(status, extended) + negotiation + duplex
 }
 
 // Check 6 on the defaults of registers 0, 1 and 15.
 fn words_right(control: u16, status: u16, extended: u16) -> bool
     ensures { result ≡ words_right control status extended }
 {
-    let derived = derived_control(status, extended);
     let able = Status::able_10(status)
-        | (Status::able_100(status) | ExtendedStatus::able_1000(extended));
+        | Status::able_100(status)
+        | ExtendedStatus::able_1000(extended);
+    let derived = derived_control(status, extended) + (control & Control::ISOLATE);
     (status & Status::HELD == 0)
-        & ((extended & ExtendedStatus::RESERVED == 0)
-            & (able & (control == derived + (control & Control::ISOLATE))))
+        & (extended & ExtendedStatus::RESERVED == 0)
+        & able
+        & (control == derived)
 }
 
 impl From<Phy> for Record {
@@ -101,15 +104,16 @@ impl Record {
     {
         let implemented = self.own.implemented;
         let status = self.defaults[register::STATUS];
-        let basic = has(implemented, register::CONTROL)
-            & (has(implemented, register::STATUS)
-                & (!has(implemented, register::MMD_CONTROL)
-                    & !has(implemented, register::MMD_DATA)));
         let extended_status = has(implemented, register::EXTENDED_STATUS)
             == (status & Status::EXTENDED_STATUS != 0);
         let extended = (status & Status::EXTENDED_CAPABILITY != 0)
             == others_implemented(implemented);
-        basic & (extended_status & extended)
+        has(implemented, register::CONTROL)
+            & has(implemented, register::STATUS)
+            & !has(implemented, register::MMD_CONTROL)
+            & !has(implemented, register::MMD_DATA)
+            & extended_status
+            & extended
     }
 
     // Check 6 on registers that are not implemented.
@@ -125,21 +129,22 @@ impl Record {
     fn defaults_right(self) -> bool
         ensures { result ≡ defaults_right self.own.implemented self.defaults self.masks }
     {
-        let idle = self.unimplemented_zero();
         let words = words_right(
             self.defaults[register::CONTROL],
             self.defaults[register::STATUS],
             self.defaults[register::EXTENDED_STATUS],
         );
-        let fixed = (self.masks[register::CONTROL] == 0)
-            & ((self.masks[register::STATUS] == 0)
-                & ((self.masks[register::IDENTIFIER_HIGH] == 0)
-                    & ((self.masks[register::IDENTIFIER_LOW] == 0)
-                        & (self.masks[register::EXTENDED_STATUS] == 0))));
-        idle & (fixed & words)
+        self.unimplemented_zero()
+            & (self.masks[register::CONTROL] == 0)
+            & (self.masks[register::STATUS] == 0)
+            & (self.masks[register::IDENTIFIER_HIGH] == 0)
+            & (self.masks[register::IDENTIFIER_LOW] == 0)
+            & (self.masks[register::EXTENDED_STATUS] == 0)
+            & words
     }
 
     // Checks 3 to 6, where `used` is whether an earlier record has the address.
+    #[tactic(auto, unfolding(crate::specs::Record::fault_of))]
     pub(crate) fn check(self, zero: u8, used: bool) -> Result<(), Fault>
         ensures { finding result ≡ fault_of zero used (record_in self) }
     {

@@ -1,4 +1,5 @@
-// What makes a PHY sound beside its record, and a place blank (document 01, "A sound board").
+// What makes a PHY sound beside its record, and a place blank (document 01, "A sound board"). Tests of words are joined by `&` and
+// `|`, which ask both sides and make no branch.
 ghost use Rattle.std.specs.Prelude.{◌≡◌};
 ghost use Rattle.board.specs.Check.{passes_as};
 ghost use Rattle.phy.specs.Sound.{stands_outside, control_right, registers_stand, others_at_default, reset_stands, follower_sound, in_own_read, phy_sound, hunts_fresh, is_blank, blank};
@@ -34,12 +35,12 @@ fn control_right(control: u16, status: u16, extended: u16) -> bool
     let enabled = control & Control::AUTO_NEGOTIATION_ENABLE != 0;
     let negotiation = !enabled | (status & Status::AUTO_NEGOTIATION_ABILITY != 0);
     let restart = (control & Control::RESTART_AUTO_NEGOTIATION == 0) | enabled;
-    let duplex = ((control & Control::FULL_DUPLEX != 0) | (half | !full))
-        & ((control & Control::FULL_DUPLEX == 0) | (full | !half));
+    let duplex = ((control & Control::FULL_DUPLEX != 0) | half | !full)
+        & ((control & Control::FULL_DUPLEX == 0) | full | !half);
     let unidirection = (control & Control::UNIDIRECTIONAL_ENABLE == 0)
         | (status & Status::UNIDIRECTIONAL_ABILITY != 0);
     let reserved = control & Control::RESERVED == 0;
-    speed & (negotiation & (restart & (duplex & (unidirection & reserved))))
+    speed & negotiation & restart & duplex & unidirection & reserved
 }
 
 // All registers but 0 stand at default.
@@ -61,7 +62,7 @@ fn reset_stands(phy: Phy) -> bool
         phy.registers[register::CONTROL],
         phy.defaults[register::CONTROL],
     );
-    stands & (others_at_default(phy) & !phy.link)
+    stands & others_at_default(phy) & !phy.link
 }
 
 // Hunting with 0 to 32 ones, or inside a frame with 1 to 31 bits, the first 0.
@@ -82,10 +83,11 @@ fn in_own_read(own: Own, follower: Follower) -> bool
     ensures { result ≡ in_own_read own follower }
 {
     match follower {
+        Follower::Hunting(_) => false,
         Follower::Inside(seen @ Phy::HEADER..=Follower::MOST_SEEN, bits) => {
             own.answers(Header::of(bits >> (seen - Phy::HEADER)))
         }
-        _ => false,
+        Follower::Inside(_, _) => false,
     }
 }
 
@@ -95,19 +97,19 @@ pub(crate) fn phy_sound(phy: Phy) -> bool
 {
     let control = phy.registers[register::CONTROL];
     let status = phy.registers[register::STATUS];
-    let follower = phy.follower;
-    let registers = registers_stand(phy);
-    let status_stands = stands_outside(Status::HELD, status, phy.defaults[register::STATUS]);
-    let control_stands = control_right(control, status, phy.registers[register::EXTENDED_STATUS]);
-    let reset = reset_stands(phy);
     let complete = (status & Status::AUTO_NEGOTIATION_COMPLETE == 0)
         | ((control & Control::AUTO_NEGOTIATION_ENABLE != 0)
             & (control & Control::RESTART_AUTO_NEGOTIATION == 0));
     let link = (status & Status::LINK_STATUS == 0) | phy.link;
-    let follows = follower_sound(follower);
-    let captured = in_own_read(phy.own, follower) | (phy.captured == 0);
-    registers
-        & (status_stands & (control_stands & (reset & (complete & (link & (follows & captured))))))
+    let captured = in_own_read(phy.own, phy.follower) | (phy.captured == 0);
+    registers_stand(phy)
+        & stands_outside(Status::HELD, status, phy.defaults[register::STATUS])
+        & control_right(control, status, phy.registers[register::EXTENDED_STATUS])
+        & reset_stands(phy)
+        & complete
+        & link
+        & follower_sound(phy.follower)
+        & captured
 }
 
 // Hunting with 0 ones.
@@ -123,14 +125,17 @@ pub(crate) fn is_blank(phy: Phy) -> bool
 {
     let zeros = [0; 32];
     (phy.own.address == 0)
-        & ((phy.own.implemented == 0)
-            & ((phy.defaults == zeros)
-                & ((phy.masks == zeros)
-                    & ((phy.registers == zeros)
-                        & (!phy.link & (hunts_fresh(phy.follower) & (phy.captured == 0)))))))
+        & (phy.own.implemented == 0)
+        & (phy.defaults == zeros)
+        & (phy.masks == zeros)
+        & (phy.registers == zeros)
+        & !phy.link
+        & hunts_fresh(phy.follower)
+        & (phy.captured == 0)
 }
 
 // A place with no PHY.
+#[tactic(auto, unfolding(phy::specs::Sound::blank))]
 pub(crate) fn blank() -> Phy
     ensures { result ≡ blank }
 {

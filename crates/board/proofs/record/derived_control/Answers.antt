@@ -24,4 +24,4 @@ returns c =
       | then-able_half w ↦ rw (w.duplex-is, ← c.able_half.ensures, w.if-able_half.true)
       | else-able_half w ↦ rw (w.duplex-is, ← c.able_half.ensures, w.if-able_half.false)
     ] in
-    rw (negotiates, duplex, c.fastest.ensures)
+    rw (c.fastest.ensures, ← negotiates, ← duplex) (omega arith)

@@ -1,6 +1,6 @@
 -- Each test is its clause of `words_right`.
 use Prim.Native.Nat.{◌≤◌}
-use mathlib.Core.Bool.{and-true}
+use mathlib.Core.Bool.{and-true, and_assoc, or_assoc}
 use mathlib.Core.List.{[], ◌∷◌}
 use native.Mathlib.Omega.{arith}
 use lib.Bits.{and_mask}
@@ -9,16 +9,16 @@ use Rattle.phy.proofs.Words.{bit-lt, and-bit, has-none}
 use Rattle.phy.specs.Record.{words_right}
 use Rattle.board.proofs.record.words_right.Goals as goal
 
-pub overflow_add-result : goal.overflow_add-result
-overflow_add-result c =
-    let derived : c.derived_control-derived.result ≤ 12544 = rw c.derived_control-derived.ensures (derived-most c.args.status c.args.extended) in
+pub overflow_add-derived : goal.overflow_add-derived
+overflow_add-derived c =
+    let derived : c.derived_control.result ≤ 12544 = rw c.derived_control.ensures (derived-most c.args.status c.args.extended) in
     omega (arith, and-bit 10 c.args.control, bit-lt 10 c.args.control)
 
 pub returns : goal.returns
 unfolding words_right
 returns c =
     rw (
-      c.derived_control-derived.ensures,
+      c.derived_control.ensures,
       c.able_10.ensures,
       c.able_100.ensures,
       c.able_1000.ensures,
@@ -26,4 +26,4 @@ returns c =
       and_mask _ 12,
       and-bit 10,
     )
-    (simp and-true)
+    (simp (and-true, and_assoc, or_assoc))

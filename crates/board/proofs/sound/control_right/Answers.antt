@@ -1,4 +1,5 @@
 -- Each test is its clause of `control_right`.
+use mathlib.Core.Bool.{and_assoc, or_assoc}
 use lib.Bits.{and_mask}
 use Rattle.phy.proofs.Words.{has-bit, has-no-bit}
 use Rattle.board.proofs.sound.control_right.Goals as goal
@@ -18,3 +19,4 @@ returns c =
       has-bit 7,
       and_mask c.args.control 5,
     )
+    (simp (and_assoc, or_assoc))

@@ -1,4 +1,5 @@
 -- Each test is its clause of `is_blank`.
+use mathlib.Core.Bool.{and_assoc}
 use borrow.Author.Rules.{rules}
 use Rattle.phy.specs.Sound.{is_blank}
 use Rattle.board.proofs.Registers.{all_zero}
@@ -17,3 +18,4 @@ returns c =
       c.eq-3.ensures,
       c.hunts_fresh.ensures,
     )
+    (simp and_assoc)

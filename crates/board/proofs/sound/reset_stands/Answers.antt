@@ -1,4 +1,5 @@
 -- Not in reset nothing is asked; else each test is its part of `reset_stands`.
+use mathlib.Core.Bool.{and_assoc}
 use Rattle.phy.specs.Registers.{in_reset}
 use Rattle.board.proofs.sound.reset_stands.Goals as goal
 
@@ -8,4 +9,4 @@ returns-then-not-in_reset c = rw (← c.in_reset.ensures, c.if-not-in_reset.true
 
 pub returns : goal.returns
 unfolding in_reset
-returns c = rw (← c.in_reset.ensures, c.if-not-in_reset.false, c.stands_outside-stands.ensures, c.others_at_default.ensures)
+returns c = rw (← c.in_reset.ensures, c.if-not-in_reset.false, c.stands_outside-stands.ensures, c.others_at_default.ensures) (simp and_assoc)

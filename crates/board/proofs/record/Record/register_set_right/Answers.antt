@@ -1,4 +1,5 @@
 -- Each test is its clause of `register_set_right`.
+use mathlib.Core.Bool.{and_assoc}
 use Rattle.phy.specs.Record.{register_set_right}
 use Rattle.phy.proofs.Words.{has-bit}
 use Rattle.board.proofs.record.Record.register_set_right.Goals as goal
@@ -16,3 +17,4 @@ returns c =
       has-bit 8,
       has-bit 0,
     )
+    (simp and_assoc)
