@@ -25,7 +25,7 @@ fn byte_of(events: &[u8], k: usize, offset: usize) -> u8
 pub fn clock_of(events: &[u8], k: usize) -> u16
     ensures { result ≡ event_clock events.now k }
 {
-    byte_of(events, k, 0) as u16 * 256 + byte_of(events, k, 1) as u16
+    u16::from_be_bytes([byte_of(events, k, 0), byte_of(events, k, 1)])
 }
 
 pub fn address_of(events: &[u8], k: usize) -> u8

@@ -35,11 +35,9 @@ fn own_at(file: &[u8], k: usize) -> Own
     ensures { result ≡ own_at file.now k }
 {
     let at = k * Board::RECORD;
-    let high = verdict::word_at(file, at + 2);
-    let low = verdict::word_at(file, at + 4);
     Own {
         address: file[at],
-        implemented: high as u32 * 65536 + low as u32,
+        implemented: u32::from_be_bytes([file[at + 2], file[at + 3], file[at + 4], file[at + 5]]),
     }
 }
 

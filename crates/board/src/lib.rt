@@ -20,7 +20,7 @@ use verdict::{Fault, Refusal};
 
 #[derive(Clone, Copy)]
 pub struct Board {
-    // How many PHYs there are; they stand in the first places.
+    // How many PHYs there are; they stand in the first places. It is kept beside fixed places, since there is no heap.
     pub count: usize,
     pub phys: [Phy; 32],
 }
@@ -71,8 +71,7 @@ pub fn check(board: Board) -> Result<usize, Refusal>
         }
         taken[address] = true;
     }
-    let mut spare = board.phys[count..].iter();
-    match spare.position(|phy| !sound::is_blank(*phy)) {
+    match sound::first_used(&board.phys[count..]) {
         Some(k) => Err(Fault::NotSound.at(count + k)),
         None => Ok(count),
     }

@@ -1,6 +1,6 @@
 // What makes a PHY sound beside its record, and a place blank (document 01, "A sound board"). Tests of words are joined by `&` and
 // `|`, which ask both sides and make no branch.
-ghost use Rattle.std.specs.Prelude.{◌≡◌};
+ghost use Rattle.std.specs.Prelude.{◌≡◌, not, position};
 ghost use Rattle.board.specs.Check.{passes_as};
 ghost use Rattle.phy.specs.Sound.{stands_outside, control_right, registers_stand, others_at_default, reset_stands, follower_sound, in_own_read, phy_sound, hunts_fresh, is_blank, blank};
 
@@ -120,7 +120,7 @@ fn hunts_fresh(follower: Follower) -> bool
 }
 
 // Whether a place is blank: numbers zero, hunting with 0 ones, link down.
-pub(crate) fn is_blank(phy: Phy) -> bool
+fn is_blank(phy: Phy) -> bool
     ensures { result ≡ is_blank phy }
 {
     let zeros = [0; 32];
@@ -132,6 +132,13 @@ pub(crate) fn is_blank(phy: Phy) -> bool
         & !phy.link
         & hunts_fresh(phy.follower)
         & (phy.captured == 0)
+}
+
+// The first place that is not blank.
+pub(crate) fn first_used(places: &[Phy]) -> Option<usize>
+    ensures { result ≡ position (λ phy. not (is_blank phy)) places.now }
+{
+    places.iter().position(|phy| !is_blank(*phy))
 }
 
 // A place with no PHY.

@@ -12,8 +12,6 @@ use borrow.Author.Rules.{rules}
 use Rattle.std.specs.Prelude.{Some, None}
 use Rattle.std.specs.List.{position, position_or_len}
 use Rattle.std.proofs.lemmas.List.{length-take, length-drop, get_or-take, take_all}
-use Rattle.std.proofs.lemmas.Iterator.{YieldsList-from_slice}
-use Rattle.std.proofs.lemmas.Iterator.Search.{position_from_yields_List}
 use Rattle.std.proofs.lemmas.List.Quantifiers.{position-Some}
 use Rattle.std.proofs.lemmas.List.Sums.{fails_before_first}
 use Rattle.verdict.specs.Refusal.{Refused, not_sound, ◌when◌}
@@ -50,6 +48,9 @@ blank_asked board k unused = rw (le-leb board.count k unused)
 abbrev spare_places : Board → List Phy
 spare_places board = drop board.count board.phys
 
+spare-all : (board : Board) → take (length board.phys - board.count) (spare_places board) ≡ spare_places board
+spare-all board = take_all (length board.phys - board.count) (spare_places board) (rw length-drop (omega arith))
+
 abbrev not_blank : Phy → Bool
 not_blank phy = not (is_blank phy)
 
@@ -74,12 +75,16 @@ module _ (board : Board) (long : length board.phys ≡ 32) where
       }
 
   -- or all are blank
+  abbrev first : ℕ
+  first = position_or_len not_blank (spare_places board)
+
   none-unsound : position not_blank (spare_places board) ≡ None → (i : ℕ) → board.count ≤ i → i < board.count + (32 - board.count) → place_fault board i ≡ 0
   none-unsound e i h l =
+      let all : length (spare_places board) ≤ first = go (ltb first (length (spare_places board))) refl e in
       passes_blank (i - board.count) i (omega arith)
-      (fails_before_first not_blank (spare_places board) (i - board.count) nowhere (omega (arith, length-drop board.count board.phys, go (ltb (position_or_len not_blank (spare_places board)) (length (spare_places board))) refl e)))
+      (fails_before_first not_blank (spare_places board) (i - board.count) nowhere (omega (arith, length-drop board.count board.phys)))
     where
-      go : (b : Bool) → ltb (position_or_len not_blank (spare_places board)) (length (spare_places board)) ≡ b → cond b (Some (position_or_len not_blank (spare_places board))) None ≡ None → length (spare_places board) ≤ position_or_len not_blank (spare_places board)
+      go : (b : Bool) → ltb first (length (spare_places board)) ≡ b → cond b (Some first) None ≡ None → length (spare_places board) ≤ first
       go true p e = cc
       go false p e = ltb-false _ _ p
 
@@ -120,17 +125,14 @@ returns-in-Some c =
     let board = c.args.board in
     let long : length board.phys ≡ 32 = search rules in
     let all : c.loop-k.k ≡ board.count = omega (arith, length-take board.count board.phys) in
-    let found : c.position.result ≡ position not_blank (spare_places board) =
-    position_from_yields_List not_blank _ _ _ c.position.ensures.ran (YieldsList-from_slice _ (c.iter-spare.ensures.rest ∙ take_all _ _ (rw length-drop (omega arith)))) (λ x b q k. search rules) in
-    let first = first-unsound board long c.in-Some.k (sym found ∙ c.in-Some.is) in
-    rw c.at-in-Some.ensures (sym ((rw all at c.loop-k.invariant.1) ∙ first-refused (place_fault board) _ board.count _ 11 _ first))
+    let found = ap (position not_blank) (sym (spare-all board)) ∙ sym c.first_used.ensures ∙ c.in-Some.is in
+    rw c.at-in-Some.ensures
+    (sym ((rw all at c.loop-k.invariant.1) ∙ first-refused (place_fault board) _ board.count _ 11 _ (first-unsound board long c.in-Some.k found)))
 
 pub returns-in-None : goal.returns-in-None
 returns-in-None c =
     let board = c.args.board in
     let long : length board.phys ≡ 32 = search rules in
     let all : c.loop-k.k ≡ board.count = omega (arith, length-take board.count board.phys) in
-    let found : c.position.result ≡ position not_blank (spare_places board) =
-    position_from_yields_List not_blank _ _ _ c.position.ensures.ran (YieldsList-from_slice _ (c.iter-spare.ensures.rest ∙ take_all _ _ (rw length-drop (omega arith)))) (λ x b q k. search rules) in
-    let none = none-unsound board long (sym found ∙ c.in-None.is) in
-    sym ((rw all at c.loop-k.invariant.1) ∙ all-pass-done (place_fault board) _ board.count _ none)
+    let found = ap (position not_blank) (sym (spare-all board)) ∙ sym c.first_used.ensures ∙ c.in-None.is in
+    sym ((rw all at c.loop-k.invariant.1) ∙ all-pass-done (place_fault board) _ board.count _ (none-unsound board long found))

@@ -10,7 +10,7 @@ use lib.Dec.{eqb}
 use lib.ListN.{length, get_or, take}
 use borrow.Author.Tests.{eq-eqb, ne_eqb, lt-ltb, le-ltb}
 use borrow.Author.Rules.{rules}
-use Rattle.verdict.specs.Refusal.{Refused, judged, refusal_of}
+use Rattle.verdict.specs.Refusal.{Refused, Good, judged, judged_by, refusal_of}
 use Rattle.verdict.specs.File.{byte_at, file_verdict}
 use Rattle.verdict.proofs.Checks.{next, stop, finish}
 use Rattle.verdict.proofs.Faults.{some_number}
@@ -63,9 +63,10 @@ loop-k-preserved c =
     let events = c.args.events.now in
     let k = c.loop-k.k in
     let fault = fault_by c.table_of-there.result events c.args.last in
-    let found = ap judged (sym c.in-Ok.is) ∙ (rw c.address_of-address.ensures at c.judge_event-event.ensures) in
-    let passes = sym (refusal-judged (fault k) (event_clock events k)) ∙ ap refusal_of (sym found) in
-    (rw add-one (good-own (fault k) _ _ (sym found)), c.loop-k.invariant.1 ∙ next fault _ _ k (search rules) passes)
+    let found : judged_by (fault k) (event_clock events k) ≡ Good c.in-Ok.clock =
+    sym (rw c.address_of-address.ensures at c.judge_event-event.ensures) ∙ ap judged c.in-Ok.is in
+    let passes = sym (refusal-judged (fault k) (event_clock events k)) ∙ ap refusal_of found in
+    (rw add-one (good-own (fault k) _ _ found), c.loop-k.invariant.1 ∙ next fault _ _ k (search rules) passes)
 
 pub returns : goal.returns
 returns c =
