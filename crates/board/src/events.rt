@@ -81,6 +81,7 @@ fn judge_event(there: bool, events: &[u8], last: usize, k: usize, before: u16) -
 }
 
 // The event file's checks on a board, where `last` is the last clock.
+#[tactic(auto, unfolding(verdict::specs::File::file_verdict))]
 pub fn check_events(board: Board, events: &[u8], last: usize) -> Result<usize, Refusal>
     ensures { said result ≡ events_verdict board events.now last }
 {

@@ -69,6 +69,7 @@ fn refused(refusal: Refusal, phys: [Phy; 32]) -> Outcome
 }
 
 // The board that a board file says.
+#[tactic(auto, unfolding(crate::specs::Load::loaded, verdict::specs::File::file_verdict))]
 pub fn load(file: &[u8]) -> Outcome
     ensures { told result ≡ loaded file.now }
 {

@@ -51,6 +51,7 @@ fn others_at_default(phy: Phy) -> bool
 }
 
 // In reset all else stands at default with the link down.
+#[tactic(auto, unfolding(phy::specs::Registers::in_reset))]
 fn reset_stands(phy: Phy) -> bool
     ensures { result ≡ reset_stands phy }
 {

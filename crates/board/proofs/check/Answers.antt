@@ -7,7 +7,7 @@ use native.Mathlib.Omega.{arith}
 use lib.ListN.{length, get_or, set, take, drop}
 use lib.Seq.{get_or-drop}
 use lib.Dec.{ltb}
-use borrow.Author.Tests.{lt-ltb, le-ltb, lt-leb, le-leb, ltb-false}
+use borrow.Author.Tests.{le-ltb, lt-leb, le-leb, ltb-false}
 use borrow.Author.Rules.{rules}
 use Rattle.std.specs.Prelude.{Some, None}
 use Rattle.std.specs.List.{position, position_or_len}
@@ -87,10 +87,6 @@ module _ (board : Board) (long : length board.phys ≡ 32) where
       go : (b : Bool) → ltb first (length (spare_places board)) ≡ b → cond b (Some first) None ≡ None → length (spare_places board) ≤ first
       go true p e = cc
       go false p e = ltb-false _ _ p
-
-pub returns-then-count-gt-PLACES : goal.returns-then-count-gt-PLACES
-unfolding checked
-returns-then-count-gt-PLACES c = rw (c.at.ensures, lt-ltb 32 _ c.if-count-gt-PLACES.true)
 
 pub loop-k-init : goal.loop-k-init
 unfolding checked

@@ -2,13 +2,11 @@
 use Prim.Native.Nat.{ℕ, ◌+◌, ◌*◌, min, ◌<◌}
 use mathlib.Core.Bool.{Bool, false}
 use mathlib.Core.List.{List}
-use mathlib.Core.Path.{◌≡◌, refl, ap, sym, ◌∙◌}
+use mathlib.Core.Path.{◌≡◌, ap, sym, ◌∙◌}
 use native.Mathlib.Omega.{arith}
-use native.Mathlib.Nat.{sub-zero}
 use native.Mathlib.Numerals.{add-one}
 use lib.Dec.{eqb}
 use lib.ListN.{length, get_or, take}
-use borrow.Author.Tests.{eq-eqb, ne_eqb, lt-ltb, le-ltb}
 use borrow.Author.Rules.{rules}
 use Rattle.verdict.specs.Refusal.{Refused, Good, judged, judged_by, refusal_of}
 use Rattle.verdict.specs.File.{byte_at, file_verdict}
@@ -33,18 +31,6 @@ on-board board events last addresses there places bytes all table =
     table (event_address events k) (bytes (k * 4 + 2))
     ∙ rw all (among-first board.phys (min board.count 32) (event_address events k) (omega arith)) in
     λ i. file_verdict 4 256 (λ k. event_fault_as (sym (told k) i) events last k) events
-
-pub returns-then-events-ne0 : goal.returns-then-events-ne0
-unfolding file_verdict
-returns-then-events-ne0 c = rw (c.at.ensures, ne_eqb _ 0 c.if-events-ne0.true)
-
-pub returns-then-count-gt-MOST_EVENTS : goal.returns-then-count-gt-MOST_EVENTS
-unfolding file_verdict
-returns-then-count-gt-MOST_EVENTS c = rw (c.at-then-count-gt-MOST_EVENTS.ensures, eq-eqb _ 0 c.if-events-ne0.false, lt-ltb 256 _ c.if-count-gt-MOST_EVENTS.true)
-
-pub loop-k-init : goal.loop-k-init
-unfolding file_verdict
-loop-k-init c = (refl, rw (eq-eqb _ 0 c.if-events-ne0.false, le-ltb 256 _ c.if-count-gt-MOST_EVENTS.false, sub-zero))
 
 pub returns-in_default : goal.returns-in_default
 returns-in_default c =

@@ -6,7 +6,7 @@ use mathlib.Core.Path.{◌≡◌, ap, ap₂, sym, ◌∙◌}
 use native.Mathlib.Omega.{arith}
 use native.Mathlib.Nat.{sub-zero}
 use lib.ListN.{length, get_or, set, replicate}
-use borrow.Author.Tests.{eq-eqb, ne_eqb, lt-ltb, le-ltb}
+use borrow.Author.Tests.{eq-eqb, le-ltb}
 use Rattle.verdict.specs.Refusal.{Verdict}
 use Rattle.verdict.specs.Refusal.{Done, number_of, finding}
 use Rattle.verdict.specs.File.{file_verdict}
@@ -29,16 +29,6 @@ used-is : (file : List ℕ) (taken : List Bool) (k address : ℕ) → taken ≡ 
 unfolding used_before
 used-is file taken k address so_far here byte =
     ap₂ (λ (table : List Bool) (a : ℕ). get_or table a false) so_far here ∙ taken_at (address_at file) k (address_at file k) byte
-
-pub returns-then-file-ne0 : goal.returns-then-file-ne0
-unfolding loaded file_verdict
-returns-then-file-ne0 c = rw (ne_eqb _ 0 c.if-file-ne0.true) (rw c.at.ensures at c.refused.ensures)
-
-pub returns-then-count-gt-PLACES : goal.returns-then-count-gt-PLACES
-unfolding loaded file_verdict
-returns-then-count-gt-PLACES c =
-    rw (eq-eqb _ 0 c.if-file-ne0.false, lt-ltb 32 _ c.if-count-gt-PLACES.true)
-    (rw c.at-then-count-gt-PLACES.ensures at c.refused-then-count-gt-PLACES.ensures)
 
 pub loop-k-init : goal.loop-k-init
 unfolding file_verdict tabulate

@@ -1,5 +1,5 @@
 -- One test more each turn.
-use mathlib.Core.Path.{◌≡◌, refl}
+use mathlib.Core.Path.{refl}
 use native.Mathlib.Omega.{arith}
 use Rattle.phy.specs.Record.{every}
 use Rattle.board.proofs.Turns.{every-turn}
@@ -13,8 +13,3 @@ pub loop-r-preserved : goal.loop-r-preserved
 loop-r-preserved g c test finds =
     let loop = c.loop-r in
     every-turn test loop.r (loop.invariant test finds) (finds loop.r (omega arith) _ c.passes-all.ensures)
-
-pub returns : goal.returns
-returns g c test finds =
-    let all : c.loop-r.r ≡ 32 = omega arith in
-    rw all at (c.loop-r.invariant test finds)

@@ -3,10 +3,6 @@ use mathlib.Core.Bool.{and_assoc}
 use Rattle.phy.specs.Registers.{in_reset}
 use Rattle.board.proofs.sound.reset_stands.Goals as goal
 
-pub returns-then-not-in_reset : goal.returns-then-not-in_reset
-unfolding in_reset
-returns-then-not-in_reset c = rw (← c.in_reset.ensures, c.if-not-in_reset.true)
-
 pub returns : goal.returns
 unfolding in_reset
 returns c = rw (← c.in_reset.ensures, c.if-not-in_reset.false, c.stands_outside-stands.ensures, c.others_at_default.ensures) (simp and_assoc)
