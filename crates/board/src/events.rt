@@ -42,6 +42,7 @@ pub fn code_of(events: &[u8], k: usize) -> u8
 
 // The address at each place: a few bytes to look through in place of a whole board. The board is read and not lent, since a loan of
 // it, such as `from_fn` takes, would hold a second board.
+#[tactic(auto, unfolding(verdict::specs::Output::tabulate))]
 fn addresses_of(board: Board) -> [u8; 32]
     ensures { result ≡ addresses_of board.phys }
 {
@@ -53,6 +54,7 @@ fn addresses_of(board: Board) -> [u8; 32]
 }
 
 // Which addresses are among these: a table to ask for each event, in place of a walk.
+#[tactic(auto, using(crate::proofs::Taken::taken_none))]
 fn table_of(addresses: &[u8]) -> [bool; 256]
     ensures { (address : ℕ) → address < 256 → get_or result address false ≡ any (length addresses.now) (λ i. eqb (get_or addresses.now i 0) address) }
 {

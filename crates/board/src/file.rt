@@ -14,6 +14,7 @@ use verdict::{Fault, Refusal};
 
 // The 32 words from a place of the file on, high byte first. The machine has the low byte first: so the first loop is one copy,
 // and the second turns eight words at a time.
+#[tactic(auto, unfolding(crate::specs::Load::words_at, verdict::specs::Output::tabulate))]
 fn words_at(file: &[u8], start: usize) -> [u16; 32]
     requires { start + 64 ≤ length file.now }
     ensures { result ≡ words_at file.now start }

@@ -54,7 +54,7 @@ impl Outcome {
 }
 
 // Whether a board is sound: Ok with the number of PHYs, or refusal 12 at the lowest place at fault.
-#[tactic(auto, unfolding(crate::specs::Check::checked))]
+#[tactic(auto, using(crate::proofs::Taken::taken_none), unfolding(crate::specs::Check::checked))]
 pub fn check(board: Board) -> Result<usize, Refusal>
     ensures { said result ≡ checked board }
 {

@@ -126,6 +126,7 @@ impl Record {
     }
 
     // Check 6.
+    #[tactic(auto, unfolding(phy::specs::Record::defaults_right))]
     fn defaults_right(self) -> bool
         ensures { result ≡ defaults_right self.own.implemented self.defaults self.masks }
     {

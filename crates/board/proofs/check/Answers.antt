@@ -7,7 +7,7 @@ use native.Mathlib.Omega.{arith}
 use lib.ListN.{length, get_or, set, take, drop}
 use lib.Seq.{get_or-drop}
 use lib.Dec.{ltb}
-use borrow.Author.Tests.{le-ltb, lt-leb, le-leb, ltb-false}
+use borrow.Author.Tests.{lt-leb, le-leb, ltb-false}
 use borrow.Author.Rules.{rules}
 use Rattle.std.specs.Prelude.{Some, None}
 use Rattle.std.specs.List.{position, position_or_len}
@@ -20,8 +20,8 @@ use Rattle.phy.specs.declared.Phy.{Phy}
 use Rattle.phy.specs.Sound.{phy_sound, is_blank, nowhere}
 use Rattle.board.specs.declared.Board.{Board}
 use Rattle.board.specs.Record.{has_address, taken_by}
-use Rattle.board.specs.Check.{place_at, passes_as, record_passes, place_sound, place_fault, checked}
-use Rattle.board.proofs.Taken.{taken_none, taken_at, taken_next}
+use Rattle.board.specs.Check.{place_at, passes_as, record_passes, place_sound, place_fault}
+use Rattle.board.proofs.Taken.{taken_at, taken_next}
 use Rattle.board.proofs.check.Goals as goal
 
 -- A place with a PHY, as the loop reads it: who has its address before it is told by the table
@@ -87,10 +87,6 @@ module _ (board : Board) (long : length board.phys ≡ 32) where
       go : (b : Bool) → ltb first (length (spare_places board)) ≡ b → cond b (Some first) None ≡ None → length (spare_places board) ≤ first
       go true p e = cc
       go false p e = ltb-false _ _ p
-
-pub loop-k-init : goal.loop-k-init
-unfolding checked
-loop-k-init c = (taken_none _, rw (le-ltb 32 _ c.if-count-gt-PLACES.false))
 
 pub returns-then-not-passes-phy_sound : goal.returns-then-not-passes-phy_sound
 returns-then-not-passes-phy_sound c =

@@ -5,17 +5,12 @@ use mathlib.Core.List.{append-nil}
 use native.Mathlib.Omega.{arith}
 use lib.ListN.{length, length-map, get_or-map}
 use borrow.Author.Rules.{rules}
-use Rattle.verdict.specs.Output.{tabulate}
 use Rattle.verdict.proofs.Lists.{tabulate-of}
 use Rattle.verdict.proofs.Outputs.{fill}
 use Rattle.phy.specs.declared.Phy.{Phy}
 use Rattle.phy.specs.Sound.{nowhere}
 use Rattle.board.specs.Record.{addresses_of}
 use Rattle.board.proofs.events.addresses_of.Goals as goal
-
-pub loop-i-init : goal.loop-i-init
-unfolding tabulate
-loop-i-init c = refl
 
 pub loop-i-preserved : goal.loop-i-preserved
 loop-i-preserved c =

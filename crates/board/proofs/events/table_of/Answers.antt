@@ -5,11 +5,8 @@ use mathlib.Core.Path.{◌≡◌, ap, ◌∙◌}
 use native.Mathlib.Omega.{arith}
 use lib.ListN.{length, get_or, set}
 use borrow.Author.Rules.{rules}
-use Rattle.board.proofs.Taken.{taken_none, taken_at, taken_next}
+use Rattle.board.proofs.Taken.{taken_at, taken_next}
 use Rattle.board.proofs.events.table_of.Goals as goal
-
-pub loop-address-init : goal.loop-address-init
-loop-address-init c = taken_none _
 
 pub loop-address-preserved : goal.loop-address-preserved
 loop-address-preserved c =

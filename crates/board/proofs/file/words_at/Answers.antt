@@ -1,6 +1,6 @@
 -- A loop puts the pairs of bytes, low byte first, and a loop turns each into its word.
-use mathlib.Core.Path.{◌≡◌, refl, ap, ◌∙◌}
-use mathlib.Core.List.{List, append-nil}
+use mathlib.Core.Path.{◌≡◌, ap, ◌∙◌}
+use mathlib.Core.List.{List}
 use Prim.Native.Nat.{ℕ, suc, ◌+◌, ◌*◌, ◌<◌}
 use native.Mathlib.Omega.{arith}
 use lib.ListN.{length, get_or, drop}
@@ -8,8 +8,7 @@ use lib.Seq.{drop-cons, get_or_at}
 use Rattle.verdict.specs.Output.{tabulate}
 use Rattle.verdict.proofs.Lists.{length-tabulate, get_or-tabulate}
 use Rattle.verdict.proofs.Outputs.{filled, fill}
-use borrow.Author.Count.{below_none, below_more}
-use Rattle.board.specs.Load.{words_at}
+use borrow.Author.Count.{below_more}
 use borrow.Author.Rules.{rules}
 use Rattle.board.proofs.file.words_at.Invariants.{pair_at, Bytes}
 use Rattle.board.proofs.file.words_at.Goals as goal
@@ -18,10 +17,6 @@ use Rattle.board.proofs.file.words_at.Goals as goal
 stands : (f : ℕ → ℕ) (out : List ℕ) (i d : ℕ) → i < length out → get_or (filled f out i) i d ≡ get_or out i d
 stands f out i d within = rw (drop-cons out i d within) (get_or_at (tabulate i f) (get_or out i d) (drop (suc i) out) d i (length-tabulate i f))
 
-pub loop-r-init : goal.loop-r-init
-unfolding tabulate
-loop-r-init c = (refl, below_none _)
-
 pub loop-r-preserved : goal.loop-r-preserved
 loop-r-preserved c =
     let file = c.args.file.now in
@@ -29,12 +24,6 @@ loop-r-preserved c =
     let at = c.args.start + loop.r * 2 in
     let here : Bytes file at = (omega (arith, c.type_inv.file at), omega (arith, c.type_inv.file (at + 1))) in
     (fill _ _ loop.words loop.r _ (search rules) loop.invariant.0 (search rules), below_more _ loop.r loop.invariant.1 here)
-
-pub loop-word-init : goal.loop-word-init
-unfolding tabulate
-loop-word-init c =
-    let all : c.loop-r.r ≡ 32 = omega arith in
-    (rw all at c.loop-r.invariant.0) ∙ append-nil _
 
 pub loop-word-preserved : goal.loop-word-preserved
 loop-word-preserved c =
@@ -48,9 +37,3 @@ loop-word-preserved c =
     ∙ get_or-tabulate 32 _ 0 _ within in
     let pair-bytes : Bytes file at = c.loop-r.invariant.1 loop.word-index (search rules) in
     fill _ _ loop.word-items loop.word-index _ (rw length-tabulate within) loop.invariant (omega (arith, c.swap_bytes.ensures, pair, pair-bytes))
-
-pub returns : goal.returns
-unfolding words_at tabulate
-returns c =
-    let all : c.loop-word.word-index ≡ 32 = omega arith in
-    (rw all at c.loop-word.invariant) ∙ append-nil _
