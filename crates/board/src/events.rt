@@ -40,8 +40,8 @@ pub fn code_of(events: &[u8], k: usize) -> u8
     byte_of(events, k, 3)
 }
 
-// The address at each place: a few bytes to look through in place of a whole board. The board is read and not lent, since a loan of
-// it, such as `from_fn` takes, would hold a second board.
+// The address at each place: a few bytes to look through in place of a whole board. The board is read and not lent: a loan of it
+// was tried, and holds a second board.
 #[tactic(auto, unfolding(verdict::specs::Output::tabulate))]
 fn addresses_of(board: Board) -> [u8; 32]
     ensures { result ≡ addresses_of board.phys }

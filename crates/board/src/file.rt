@@ -12,20 +12,16 @@ use crate::{Board, Outcome, register, sound};
 use phy::{Own, Phy};
 use verdict::{Fault, Refusal};
 
-// The 32 words from a place of the file on, high byte first. The machine has the low byte first: so the first loop is one copy,
-// and the second turns eight words at a time.
+// The 32 words from a place of the file on, high byte first.
 #[tactic(auto, unfolding(crate::specs::Load::words_at, verdict::specs::Output::tabulate))]
 fn words_at(file: &[u8], start: usize) -> [u16; 32]
     requires { start + 64 ≤ length file.now }
     ensures { result ≡ words_at file.now start }
 {
     let mut words = [0u16; 32];
-    for r in 0..register::COUNT {
+    for (r, word) in words.iter_mut().enumerate() {
         let at = start + r * 2;
-        words[r] = u16::from_le_bytes([file[at], file[at + 1]]);
-    }
-    for word in words.iter_mut() {
-        *word = word.swap_bytes();
+        *word = u16::from_be_bytes([file[at], file[at + 1]]);
     }
     words
 }

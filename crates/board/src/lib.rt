@@ -37,8 +37,8 @@ impl Board {
     pub const MOST_EVENTS: usize = 256;
 }
 
-// What a call that loads or changes a board answers, and the board that it hands back. A refusal hands one back too, as document 01 has it:
-// the board that was given, and of a load the board of no PHYs. So the answer stands beside the board, and the board not in it.
+// What a call that loads or changes a board answers, and the board that it hands back. A refusal hands one back too, as document 01
+// has it: the board that was given, and of a load the board of no PHYs. So the board stands beside the answer, and not in it.
 #[derive(Clone, Copy)]
 pub struct Outcome {
     pub verdict: Result<usize, Refusal>,

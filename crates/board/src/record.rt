@@ -9,7 +9,6 @@ ghost use Rattle.board.specs.Record.{fault_of, record_in};
 
 use crate::{Board, register};
 use phy::{Control, ExtendedStatus, Own, Phy, Status};
-use std::array;
 use verdict::Fault;
 
 // What a record of the board file says of its PHY.
