@@ -1,9 +1,9 @@
 -- A turn of the load: what it finds of its record is what the file's checks say of it, and the PHYs loaded so far are those of the records before it.
 use Prim.Native.Nat.{ℕ, ◌<◌, ◌≤◌}
 use native.Mathlib.Omega.{arith}
-use mathlib.Core.Bool.{Bool}
+use mathlib.Core.Bool.{Bool, false}
 use mathlib.Core.List.{List}
-use mathlib.Core.Path.{◌≡◌, ap, ◌∙◌}
+use mathlib.Core.Path.{◌≡◌, ap, ap₂, ◌∙◌}
 use lib.ListN.{get_or, drop, get_or-append}
 use lib.Dec.{eqb}
 use Rattle.verdict.proofs.Lists.{length-tabulate, get_or-tabulate}
@@ -14,8 +14,9 @@ use Rattle.phy.specs.Fields.{PhyRecord}
 use Rattle.phy.specs.Clock.{fresh}
 use Rattle.phy.specs.Sound.{nowhere}
 use Rattle.phy.proofs.Every.{any-ext}
-use Rattle.board.specs.Record.{has_address, fault_of}
+use Rattle.board.specs.Record.{has_address, taken_by, fault_of}
 use Rattle.board.specs.Load.{address_at, zero_byte_at, record_at, phy_at, used_before, record_fault}
+use Rattle.board.proofs.Taken.{taken_at}
 
 module _ (file : List ℕ) (old : List Phy) (n : ℕ) where
   -- a PHY that stands already, where n are loaded
@@ -31,10 +32,14 @@ module _ (file : List ℕ) (old : List Phy) (n : ℕ) where
 
 -- what is read of the record at index k, once it is what the file says
 module _ (file : List ℕ) (k : ℕ) (read : PhyRecord) (as-file : read ≡ record_at file k) where
-  -- its checks are the file's
-  pub found-fault : (used : Bool) → used ≡ used_before file k → fault_of (zero_byte_at file k) used read ≡ record_fault file k
-  unfolding record_fault
-  found-fault used u = rw (u, as-file)
+  -- its checks are the file's: whether an earlier record has the address is told by the table
+  pub found-fault : (taken : List Bool) → taken ≡ taken_by (address_at file) k → address_at file k < 256
+      → fault_of (zero_byte_at file k) (get_or taken read.own.address false) read ≡ record_fault file k
+  unfolding record_fault used_before
+  found-fault taken so_far byte =
+      let address = ap (λ (r : PhyRecord). r.own.address) as-file in
+      let used = ap₂ (λ (table : List Bool) (a : ℕ). get_or table a false) so_far address ∙ taken_at (address_at file) k (address_at file k) byte in
+      rw (used, as-file)
 
   -- and the PHY that is made of it is the record's
   pub found-phy : fresh read.own read.defaults read.masks ≡ phy_at file k

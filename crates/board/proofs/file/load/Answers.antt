@@ -1,11 +1,11 @@
 -- The records are asked in order; each that passes fills the next place, and the first at fault refuses.
 use Prim.Native.Nat.{ℕ, ◌*◌, ◌/◌, ◌<◌}
-use mathlib.Core.Bool.{Bool, true, false}
+use mathlib.Core.Bool.{Bool, true}
 use mathlib.Core.List.{List}
 use mathlib.Core.Path.{◌≡◌, ap, ap₂, sym, ◌∙◌}
 use native.Mathlib.Omega.{arith}
 use native.Mathlib.Nat.{sub-zero}
-use lib.ListN.{length, get_or, set, replicate}
+use lib.ListN.{length, set, replicate}
 use borrow.Author.Tests.{eq-eqb, le-ltb}
 use Rattle.verdict.specs.Refusal.{Verdict}
 use Rattle.verdict.specs.Refusal.{Done, number_of, finding}
@@ -16,19 +16,11 @@ use Rattle.verdict.proofs.Outputs.{fill}
 use Rattle.verdict.proofs.Faults.{some_number}
 use Rattle.phy.specs.Fields.{PhyRecord}
 use Rattle.phy.specs.Sound.{blank}
-use Rattle.board.specs.Record.{taken_by}
-use Rattle.board.specs.Load.{address_at, phy_at, used_before, record_fault, board_verdict, board_of, refused_load, loaded_by, loaded}
-use Rattle.board.proofs.Taken.{taken_none, taken_at, taken_next}
+use Rattle.board.specs.Load.{address_at, phy_at, record_fault, board_verdict, board_of, refused_load, loaded_by, loaded}
+use Rattle.board.proofs.Taken.{taken_none, taken_next}
 use Rattle.board.proofs.Loading.{found-fault, found-phy}
 use borrow.Author.Rules.{rules}
 use Rattle.board.proofs.file.load.Goals as goal
-
--- whether an earlier record has the address is told by the table
-used-is : (file : List ℕ) (taken : List Bool) (k address : ℕ) → taken ≡ taken_by (address_at file) k → address ≡ address_at file k → address_at file k < 256
-    → get_or taken address false ≡ used_before file k
-unfolding used_before
-used-is file taken k address so_far here byte =
-    ap₂ (λ (table : List Bool) (a : ℕ). get_or table a false) so_far here ∙ taken_at (address_at file) k (address_at file k) byte
 
 pub loop-k-init : goal.loop-k-init
 unfolding file_verdict tabulate
@@ -42,10 +34,8 @@ returns-in_default c =
     let k = loop.k in
     let fault = record_fault file in
     let byte : address_at file k < 256 = omega (arith, c.type_inv.file (k * 134)) in
-    let address = ap (λ (r : PhyRecord). r.own.address) c.at-record.ensures in
-    let used = used-is file loop.taken k _ loop.invariant.1 address byte in
     let number : number_of c.unwrap_err.result ≡ fault k =
-    ap finding (sym c.unwrap_err.ensures) ∙ c.check-checked.ensures ∙ found-fault file k _ c.at-record.ensures _ used in
+    ap finding (sym c.unwrap_err.ensures) ∙ c.check-checked.ensures ∙ found-fault file k _ c.at-record.ensures loop.taken loop.invariant.1 byte in
     let refuses = loop.invariant.2 ∙ stop fault _ _ k (search rules) (λ none. some_number c.unwrap_err.result (number ∙ none)) in
     (rw c.at-in_default.ensures at c.refused-in_default.ensures)
     ∙ ap (λ f. refused_load f k) number
@@ -60,9 +50,8 @@ loop-k-preserved c =
     let within : k < 32 = omega (arith, c.loop-k-test.true, c.if-count-gt-PLACES.false) in
     let byte : address_at file k < 256 = omega (arith, c.type_inv.file (k * 134)) in
     let address = ap (λ (r : PhyRecord). r.own.address) c.at-record.ensures in
-    let used = used-is file loop.taken k _ loop.invariant.1 address byte in
     let passes : fault k ≡ 0 =
-    sym (found-fault file k _ c.at-record.ensures _ used) ∙ sym c.check-checked.ensures ∙ ap finding c.in-Ok.is in
+    sym (found-fault file k _ c.at-record.ensures loop.taken loop.invariant.1 byte) ∙ sym c.check-checked.ensures ∙ ap finding c.in-Ok.is in
     let phy = c.fresh.ensures ∙ found-phy file k _ c.at-record.ensures in (
       fill (phy_at file) (replicate 32 blank) loop.phys k _ within loop.invariant.0 phy,
       ap₂ (λ (table : List Bool) (a : ℕ). set table a true) loop.invariant.1 address ∙ taken_next (address_at file) k byte,
