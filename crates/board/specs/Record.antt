@@ -1,8 +1,7 @@
 -- Document 01, "Refusal numbers": checks 3 to 6 of a board record, "each checked by rising number".
-use Rattle.std.specs.Prelude.{ℕ, zero, suc, Bool, not, ◌||◌, List, map, get_or, eqb, ltb}
+use Rattle.std.specs.Prelude.{ℕ, Bool, not, ◌||◌, List, map, get_or, eqb, ltb}
 use Rattle.verdict.specs.Output.{tabulate}
 use Rattle.verdict.specs.Refusal.{wrong_field, address_used, wrong_register_set, wrong_default, ◌when◌, ◌else◌}
-use Rattle.phy.specs.declared.own.Own.{Own}
 use Rattle.phy.specs.declared.Phy.{Phy}
 use Rattle.phy.specs.Fields.{PhyRecord}
 use Rattle.phy.specs.Record.{any, register_set_right, defaults_right}

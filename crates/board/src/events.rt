@@ -72,8 +72,8 @@ fn judge_event(there: bool, events: &[u8], last: usize, k: usize, before: u16) -
     ensures { judged result ≡ judged_by (event_fault_as there events.now last k) (event_clock events.now k) }
 {
     let clock = clock_of(events, k);
-    let code = code_of(events, k);
-    if !((Event::LINK_UP <= code) & (code <= Event::RESET_DONE)) | !there {
+    let unknown = Event::try_from(code_of(events, k)).is_err();
+    if unknown | !there {
         return Err(Fault::WrongEvent);
     }
     if (clock < before) | (last < clock as usize) {

@@ -8,7 +8,7 @@ ghost use Rattle.verdict.specs.Refusal.{finding};
 ghost use Rattle.board.specs.Record.{fault_of, record_in};
 
 use crate::{Board, register};
-use phy::{Control, ExtendedStatus, Own, Phy, Status};
+use phy::{Abilities, Control, ExtendedStatus, Own, Phy, Status};
 use verdict::Fault;
 
 // What a record of the board file says of its PHY.
@@ -35,12 +35,12 @@ fn others_implemented(implemented: u32) -> bool
 }
 
 // The fastest speed that is able, as bits 6 and 13 of register 0.
-fn fastest(status: u16, extended: u16) -> u16
-    ensures { result ≡ fastest status extended }
+fn fastest(able: Abilities) -> u16
+    ensures { result ≡ fastest able.status able.extended }
 {
-    if ExtendedStatus::able_1000(extended) {
+    if able.thousand() {
         Control::THOUSAND
-    } else if Status::able_100(status) {
+    } else if able.hundred() {
         Control::HUNDRED
     } else {
         Control::TEN
@@ -48,33 +48,26 @@ fn fastest(status: u16, extended: u16) -> u16
 }
 
 // The default of register 0, bit 10 apart.
-fn derived_control(status: u16, extended: u16) -> u16
-    ensures { result ≡ derived_control status extended }
+fn derived_control(able: Abilities) -> u16
+    ensures { result ≡ derived_control able.status able.extended }
 {
-    let negotiation = if status & Status::AUTO_NEGOTIATION_ABILITY != 0 {
+    let negotiation = if able.status & Status::AUTO_NEGOTIATION_ABILITY != 0 {
         Control::AUTO_NEGOTIATION_ENABLE
     } else {
         0
     };
-    let duplex = if Status::able_half(status, extended) {
-        0
-    } else {
-        Control::FULL_DUPLEX
-    };
-    fastest(status, extended) + negotiation + duplex
+    let duplex = if able.half() { 0 } else { Control::FULL_DUPLEX };
+    fastest(able) + negotiation + duplex
 }
 
 // Check 6 on the defaults of registers 0, 1 and 15.
-fn words_right(control: u16, status: u16, extended: u16) -> bool
-    ensures { result ≡ words_right control status extended }
+fn words_right(control: u16, able: Abilities) -> bool
+    ensures { result ≡ words_right control able.status able.extended }
 {
-    let able = Status::able_10(status)
-        | Status::able_100(status)
-        | ExtendedStatus::able_1000(extended);
-    let derived = derived_control(status, extended) + (control & Control::ISOLATE);
-    (status & Status::HELD == 0)
-        & (extended & ExtendedStatus::RESERVED == 0)
-        & able
+    let derived = derived_control(able) + (control & Control::ISOLATE);
+    (able.status & Status::HELD == 0)
+        & (able.extended & ExtendedStatus::RESERVED == 0)
+        & (able.ten() | able.hundred() | able.thousand())
         & (control == derived)
 }
 
@@ -129,18 +122,17 @@ impl Record {
     fn defaults_right(self) -> bool
         ensures { result ≡ defaults_right self.own.implemented self.defaults self.masks }
     {
-        let words = words_right(
-            self.defaults[register::CONTROL],
-            self.defaults[register::STATUS],
-            self.defaults[register::EXTENDED_STATUS],
-        );
+        let able = Abilities {
+            status: self.defaults[register::STATUS],
+            extended: self.defaults[register::EXTENDED_STATUS],
+        };
         self.unimplemented_zero()
             & (self.masks[register::CONTROL] == 0)
             & (self.masks[register::STATUS] == 0)
             & (self.masks[register::IDENTIFIER_HIGH] == 0)
             & (self.masks[register::IDENTIFIER_LOW] == 0)
             & (self.masks[register::EXTENDED_STATUS] == 0)
-            & words
+            & words_right(self.defaults[register::CONTROL], able)
     }
 
     // Checks 3 to 6, where `used` is whether an earlier record has the address.

@@ -6,7 +6,7 @@ ghost use Rattle.phy.specs.Sound.{stands_outside, control_right, registers_stand
 
 use crate::record::Record;
 use crate::register;
-use phy::{Control, Own, Phy, Status};
+use phy::{Abilities, Control, Own, Phy, Status};
 use wire::{Follower, Header};
 
 // Whether the bits outside a mask stand as in another word.
@@ -26,19 +26,19 @@ fn registers_stand(phy: Phy) -> bool
 }
 
 // What register 0 is asked, by its word and those of registers 1 and 15.
-fn control_right(control: u16, status: u16, extended: u16) -> bool
-    ensures { result ≡ control_right control status extended }
+fn control_right(control: u16, able: Abilities) -> bool
+    ensures { result ≡ control_right control able.status able.extended }
 {
-    let speed = Control::speed_able(status, extended, control);
-    let full = Status::able_full(status, extended);
-    let half = Status::able_half(status, extended);
+    let speed = Control::speed_able(able, control);
+    let full = able.full();
+    let half = able.half();
     let enabled = control & Control::AUTO_NEGOTIATION_ENABLE != 0;
-    let negotiation = !enabled | (status & Status::AUTO_NEGOTIATION_ABILITY != 0);
+    let negotiation = !enabled | (able.status & Status::AUTO_NEGOTIATION_ABILITY != 0);
     let restart = (control & Control::RESTART_AUTO_NEGOTIATION == 0) | enabled;
     let duplex = ((control & Control::FULL_DUPLEX != 0) | half | !full)
         & ((control & Control::FULL_DUPLEX == 0) | full | !half);
     let unidirection = (control & Control::UNIDIRECTIONAL_ENABLE == 0)
-        | (status & Status::UNIDIRECTIONAL_ABILITY != 0);
+        | (able.status & Status::UNIDIRECTIONAL_ABILITY != 0);
     let reserved = control & Control::RESERVED == 0;
     speed & negotiation & restart & duplex & unidirection & reserved
 }
@@ -86,7 +86,7 @@ fn in_own_read(own: Own, follower: Follower) -> bool
     match follower {
         Follower::Hunting(_) => false,
         Follower::Inside(seen @ Phy::HEADER..=Follower::MOST_SEEN, bits) => {
-            own.answers(Header::of(bits >> (seen - Phy::HEADER)))
+            own.answers(Header::from(bits >> (seen - Phy::HEADER)))
         }
         Follower::Inside(_, _) => false,
     }
@@ -98,6 +98,10 @@ pub(crate) fn phy_sound(phy: Phy) -> bool
 {
     let control = phy.registers[register::CONTROL];
     let status = phy.registers[register::STATUS];
+    let able = Abilities {
+        status,
+        extended: phy.registers[register::EXTENDED_STATUS],
+    };
     let complete = (status & Status::AUTO_NEGOTIATION_COMPLETE == 0)
         | ((control & Control::AUTO_NEGOTIATION_ENABLE != 0)
             & (control & Control::RESTART_AUTO_NEGOTIATION == 0));
@@ -105,7 +109,7 @@ pub(crate) fn phy_sound(phy: Phy) -> bool
     let captured = in_own_read(phy.own, phy.follower) | (phy.captured == 0);
     registers_stand(phy)
         & stands_outside(Status::HELD, status, phy.defaults[register::STATUS])
-        & control_right(control, status, phy.registers[register::EXTENDED_STATUS])
+        & control_right(control, able)
         & reset_stands(phy)
         & complete
         & link

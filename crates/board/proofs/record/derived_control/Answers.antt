@@ -8,20 +8,20 @@ use Rattle.phy.specs.Abilities.{able_half}
 use Rattle.phy.specs.Record.{derived_control}
 use Rattle.phy.proofs.Words.{bit-lt, and-bit}
 use Rattle.board.proofs.record.derived_control.Goals as goal
-use Rattle.board.proofs.record.derived_control.Goals.{then-status-ne0, else-status-ne0, then-able_half, else-able_half}
+use Rattle.board.proofs.record.derived_control.Goals.{then-able-ne0, else-able-ne0, then-half, else-half}
 
 pub returns : goal.returns
 unfolding derived_control
 returns c =
-    let status = c.args.status in
-    let negotiates : c.if-status-ne0.negotiation ≡ bit 3 status * 2 ^ 12 =
-    elim c.if-status-ne0.branch [
-      | then-status-ne0 w ↦ omega (arith, w.if-status-ne0.true, w.negotiation-is, and-bit 3 status, bit-lt 3 status)
-      | else-status-ne0 w ↦ omega (arith, w.if-status-ne0.false, w.negotiation-is, and-bit 3 status)
+    let status = c.args.able.status in
+    let negotiates : c.if-able-ne0.negotiation ≡ bit 3 status * 2 ^ 12 =
+    elim c.if-able-ne0.branch [
+      | then-able-ne0 w ↦ omega (arith, w.if-able-ne0.true, w.negotiation-is, and-bit 3 status, bit-lt 3 status)
+      | else-able-ne0 w ↦ omega (arith, w.if-able-ne0.false, w.negotiation-is, and-bit 3 status)
     ] in
-    let duplex : c.if-able_half.duplex ≡ cond (able_half status c.args.extended) 0 (2 ^ 8) =
-    elim c.if-able_half.branch [
-      | then-able_half w ↦ rw (w.duplex-is, ← c.able_half.ensures, w.if-able_half.true)
-      | else-able_half w ↦ rw (w.duplex-is, ← c.able_half.ensures, w.if-able_half.false)
+    let duplex : c.if-half.duplex ≡ cond (able_half status c.args.able.extended) 0 (2 ^ 8) =
+    elim c.if-half.branch [
+      | then-half w ↦ rw (w.duplex-is, ← c.half.ensures, w.if-half.true)
+      | else-half w ↦ rw (w.duplex-is, ← c.half.ensures, w.if-half.false)
     ] in
     rw (c.fastest.ensures, ← negotiates, ← duplex) (omega arith)

@@ -11,7 +11,7 @@ use Rattle.board.proofs.record.words_right.Goals as goal
 
 pub overflow_add-derived : goal.overflow_add-derived
 overflow_add-derived c =
-    let derived : c.derived_control.result ≤ 12544 = rw c.derived_control.ensures (derived-most c.args.status c.args.extended) in
+    let derived : c.derived_control.result ≤ 12544 = rw c.derived_control.ensures (derived-most c.args.able.status c.args.able.extended) in
     omega (arith, and-bit 10 c.args.control, bit-lt 10 c.args.control)
 
 pub returns : goal.returns
@@ -19,9 +19,9 @@ unfolding words_right
 returns c =
     rw (
       c.derived_control.ensures,
-      c.able_10.ensures,
-      c.able_100.ensures,
-      c.able_1000.ensures,
+      c.ten.ensures,
+      c.hundred.ensures,
+      c.thousand.ensures,
       has-none (5 ∷ 4 ∷ 2 ∷ 1 ∷ []) _ tt,
       and_mask _ 12,
       and-bit 10,

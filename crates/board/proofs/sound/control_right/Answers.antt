@@ -8,8 +8,8 @@ pub returns : goal.returns
 returns c =
     rw (
       c.speed_able-speed.ensures,
-      c.able_full-full.ensures,
-      c.able_half-half.ensures,
+      c.full-full.ensures,
+      c.half-half.ensures,
       has-bit 12,
       has-bit 3,
       has-no-bit 9,
