@@ -4,14 +4,35 @@ use mathlib.Core.Path.{◌≡◌, refl, sym, ap, ap₂, ◌∙◌}
 use mathlib.Core.Bool.{Bool, true, false, cond}
 use mathlib.Core.List.{List, [], ◌∷◌, map}
 use native.Mathlib.Omega.{arith}
-use native.Mathlib.Numerals.{add-one}
-use lib.ListN.{length, get_or, take, drop, set, length-take, drop_of_length-le}
+use native.Mathlib.Numerals.{add-one, one-add}
+use lib.ListN.{length, length-map, get_or, take, drop, set, length-take, drop_of_length-le}
 use lib.Seq.{drop-cons, get_or-take}
-use Rattle.between.specs.Happened.{first_of}
+use Rattle.std.specs.Prelude.{Option, Some, None}
+use Rattle.std.specs.List.{position}
+use lib.Dec.{ltb}
+use borrow.Author.Tests.{ltb-true, ltb-false}
+use Rattle.std.proofs.lemmas.List.Recursion.{is_position_or_len}
+use Rattle.between.specs.Happened.{first_of, found_at}
 use Rattle.between.proofs.Places.{unchanged, changed-at}
 
 never : {A : Type 0} → true ≡ false → A
 never e = absurd (let z : ◌≡◌ {A = ℕ} 0 1 = cc in omega arith)
+
+-- what a place says that is found, and what one says that is not
+module _ {A : Type 0} (xs : List A) (place : ℕ) where
+  pub found-some : {i : ℕ} → found_at place xs ≡ Some i → (i ≡ place) × (place < length xs)
+  found-some {i} = go (ltb place (length xs)) refl
+    where
+      go : (b : Bool) → ltb place (length xs) ≡ b → cond b (Some place) None ≡ Some i → (i ≡ place) × (place < length xs)
+      go true e some = (cc, ltb-true _ _ e)
+      go false e some = cc
+
+  pub found-none : found_at place xs ≡ None → length xs ≤ place
+  found-none = go (ltb place (length xs)) refl
+    where
+      go : (b : Bool) → ltb place (length xs) ≡ b → cond b (Some place) None ≡ None → length xs ≤ place
+      go true e none = absurd (let z : ◌≡◌ {A = ℕ} 0 1 = cc in omega arith)
+      go false e none = ltb-false _ _ e
 
 module _ {A : Type 0} (test : A → Bool) where
   pub first-at : (xs : List A) (d : A) → first_of test xs < length xs → test (get_or xs (first_of test xs) d) ≡ true
@@ -49,48 +70,19 @@ module _ {A : Type 0} (test : A → Bool) where
   first-map g [] = refl
   first-map g (x ∷ xs) = ap (λ i. cond (test (g x)) 0 (suc i)) (first-map g xs)
 
+  pub found-map : {B : Type 0} (g : B → A) (xs : List B) → found_at (first_of test (map g xs)) (map g xs) ≡ found_at (first_of (λ x. test (g x)) xs) xs
+  found-map g xs = ap₂ (λ i n. cond (ltb i n) (Some i) None) (first-map g xs) (length-map xs g)
+
   -- a test that says the same finds the same
   pub first-same : (other : A → Bool) → ((x : A) → test x ≡ other x) → (xs : List A) → first_of test xs ≡ first_of other xs
   unfolding first_of
   first-same other same [] = refl
   first-same other same (x ∷ xs) = ap₂ (λ b i. cond b 0 (suc i)) (same x) (first-same other same xs)
 
-  -- A loop that looks for it: none of the first i is it, so it is among the ones that are left
-  abbrev pub Among : List A → ℕ → ℕ → Type 0
-  Among xs places i = (i ≤ places) × (first_of test xs ≡ i + first_of test (drop i xs))
-
-  -- of 32 it looks at the first `count`
-  module _ (xs : List A) (d : A) (long : length xs ≡ 32) (count places : ℕ) (all : places ≡ min count 32) where
-    abbrev looked : List A
-    looked = take count xs
-
-    as_many : places ≡ length looked
-    as_many = omega (arith, length-take count xs)
-
-    module _ (i : ℕ) (more : i < places) (so_far : Among looked places i) where
-      here : get_or looked i d ≡ get_or xs i d
-      here = get_or-take count xs i d (omega arith)
-
-      from : drop i looked ≡ get_or looked i d ∷ drop (suc i) looked
-      from = drop-cons looked i d (omega (arith, as_many))
-
-      pub found_here : test (get_or xs i d) ≡ true → i ≡ first_of test looked
-      unfolding first_of
-      found_here e =
-          let first : first_of test (drop i looked) ≡ 0 = rw (from, here, e) in
-          omega (arith, so_far.1)
-
-      pub found-later : test (get_or xs i d) ≡ false → Among looked places (i + 1)
-      unfolding first_of
-      found-later e =
-          let next : first_of test (drop i looked) ≡ suc (first_of test (drop (suc i) looked)) = rw (from, here, e) in
-          (omega arith, rw (add-one i) (omega (arith, so_far.1)))
-
-    pub found_nowhere : (i : ℕ) → places ≤ i → Among looked places i → places ≡ first_of test looked
-    unfolding first_of
-    found_nowhere i end so_far =
-        let none : first_of test (drop i looked) ≡ 0 = rw (drop_of_length-le looked {i = i} (omega (arith, as_many))) in
-        omega (arith, so_far.0, so_far.1)
+  -- it is what the library's search for a place says
+  pub first-position : (xs : List A) → position test xs ≡ found_at (first_of test xs) xs
+  unfolding first_of
+  first-position xs = ap (λ i. found_at i xs) (sym (is_position_or_len (first_of test) test refl (λ x rest. ap (cond (test x) 0) (sym (one-add (first_of test rest)))) xs))
 
   -- A change of what passes, where no two pass: it is made at the place that is found, or nowhere
   module _ (f : A → A) (passes-by : (x : A) → test x ≡ false → f x ≡ x) (xs : List A) (d : A) (alone : (i j : ℕ) → i < length xs → j < length xs → test (get_or xs i d) ≡ true → test (get_or xs j d) ≡ true → i ≡ j) where

@@ -12,7 +12,7 @@ use Rattle.between.specs.Outcome.{HandsBack}
 
 module _ {answer : Verdict} {result : List ℕ} {after before : Board} {out : List ℕ} where
   -- two results that meet the promise are equal, as are the outputs
-  pub hands-back-unique : {r s : Outcome} {out₁ out₂ : List ℕ} → HandsBack answer result after before out r out₁ → HandsBack answer result after before out s out₂ → (r ≡ s) × (out₁ ≡ out₂)
+  pub hands-back-unique : {r s : Told} {out₁ out₂ : List ℕ} → HandsBack answer result after before out r out₁ → HandsBack answer result after before out s out₂ → (r ≡ s) × (out₁ ≡ out₂)
   hands-back-unique p q =
       let same = writes-unique p.writes q.writes in
       (λ i. record { verdict = same.0 i; board = (p.board ∙ sym q.board) i }, same.1)

@@ -10,9 +10,5 @@ use board::{Board, clock_of};
 pub fn is_due(events: &[u8], next: usize, clock: usize) -> bool
     ensures { result ≡ is_due events.now next clock }
 {
-    if next < events.len() / Board::EVENT_RECORD {
-        clock_of(events, next) as usize <= clock
-    } else {
-        false
-    }
+    next < events.len() / Board::EVENT_RECORD && clock_of(events, next) as usize <= clock
 }

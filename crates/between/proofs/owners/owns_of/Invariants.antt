@@ -1,5 +1,4 @@
 -- Place by place: after i turns the first i stand.
-use Prim.Native.Nat.{◌≤◌, ◌-◌}
 use mathlib.Core.Path.{◌≡◌}
 use lib.ListN.{get_or}
 use Rattle.verdict.proofs.Outputs.{filled}
@@ -7,7 +6,4 @@ use Rattle.phy.specs.Sound.{nowhere}
 use Rattle.between.proofs.owners.owns_of.Given as goal
 
 abbrev pub invariant-loop-i : goal.invariant-loop-i
-invariant-loop-i l = (l.i ≤ 32) × (l.owns ≡ filled (λ k. (get_or l.board.phys k nowhere).own) l.initial.owns l.i)
-
-abbrev pub decreases-loop-i : goal.decreases-loop-i
-decreases-loop-i l = 32 - l.i
+invariant-loop-i l = l.owns ≡ filled (λ k. (get_or l.board.phys k nowhere).own) l.initial.owns l.i
