@@ -1,5 +1,5 @@
-// What happens between clocks: which event record comes next, and the place of the PHY that an event or a frame is for; and what a machine
-// hands back (document 01, "Records" and "Refusal numbers").
+// What happens between clocks: which event record comes next, and the place of the PHY that an event or a frame is for (document 01,
+// "Records").
 #![tactic(auto)]
 
 mod events;
