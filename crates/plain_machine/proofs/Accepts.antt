@@ -1,20 +1,21 @@
 -- What is known of a list that the plain machine does not refuse.
 use Prim.Native.Nat.{ℕ, ◌*◌, ◌≤◌, ◌<◌}
-use mathlib.Core.Path.{◌≡◌}
+use mathlib.Core.Path.{◌≡◌, ap, ◌∙◌}
+use mathlib.Core.Bool.{Bool, true, false}
 use mathlib.Core.List.{List}
 use native.Mathlib.Omega.{arith}
+use lib.Dec.{ltb}
 use lib.ListN.{length}
 use lib.Seq.{length-take-le}
-use Rattle.verdict.specs.Refusal.{Done}
+use Rattle.verdict.specs.Refusal.{Done, Good, Bad, wrong_op, no_room, ◌when◌, refuse}
 use Rattle.verdict.specs.File.{records}
+use Rattle.verdict.specs.Output.{room_for}
 use Rattle.verdict.proofs.Checks.{accepted, done-by}
 use Rattle.verdict.proofs.Outputs.{room_fits}
-use Rattle.frame.specs.declared.list.Parse.TheVariants.{Good, Bad}
 use Rattle.frame.specs.Frame.{clocks}
 use Rattle.frame.specs.List.{list_record, transaction_at, parsed, list_verdict}
 use Rattle.frame.specs.Answers.{answer_record}
 use Rattle.frame.proofs.Lists.{accepted-list, accepted-parses, parsed-past}
-use Rattle.verdict.specs.Refusal.{wrong_op}
 use Rattle.board.specs.declared.Board.{Board}
 use Rattle.board.specs.Check.{places, checked}
 use Rattle.board.specs.Events.{event_record, most_events, event_address, event_fault, events_verdict}
@@ -60,3 +61,20 @@ goes board list events out m long e =
       named = λ k h. accepted-place board sound full events last on-events.count on-events.passes k (omega (arith, all.count));
       room = omega (arith, listed.count, room_fits out (on_List.count * 6) m on-events.rest);
     }
+
+-- where there is room for a result, done says how many bytes it takes
+room-says : (out : List ℕ) (n m : ℕ) → room_for out n ≡ Done m → m ≡ n
+room-says out n m = go (ltb (length out) n)
+  where
+    go : (b : Bool) → refuse (no_room when b) 0 (Done n) ≡ Done m → m ≡ n
+    go true e = cc
+    go false e = cc
+
+-- and such a list is done with the bytes of its answers
+pub planned-size : (board : Board) (list events out : List ℕ) (m : ℕ) → planning board list events out ≡ Done m → m ≡ records list_record list * answer_record
+planned-size board list events out m e =
+    let on-board = done-by (checked board) _ e in
+    let on_List = done-by (list_verdict list) _ on-board.rest in
+    let on-events = done-by (events_verdict board events (on_List.count * clocks)) _ on_List.rest in
+    let listed = accepted-list list on_List.count on_List.passes in
+    room-says out (on_List.count * answer_record) m on-events.rest ∙ ap (λ n. n * answer_record) listed.count

@@ -7,13 +7,13 @@ use native.Mathlib.Omega.{arith}
 use native.Mathlib.Decide.{ℕ_discrete}
 use lib.Dec.{eqb}
 use lib.ListN.{length, get_or, set}
+use Rattle.verdict.specs.Refusal.{Good}
 use Rattle.verdict.specs.File.{records}
 use Rattle.verdict.specs.Output.{tabulate, join}
 use Rattle.verdict.proofs.Lists.{map-tabulate}
 use Rattle.verdict.proofs.Outputs.{pieced}
 use Rattle.verdict.proofs.Elements.{map-then}
 use Rattle.frame.specs.declared.list.Transaction.{Transaction}
-use Rattle.frame.specs.declared.list.Parse.TheVariants.{Good}
 use Rattle.frame.specs.Frame.{clocks}
 use Rattle.frame.specs.List.{list_record, is_read, transaction_at, parsed}
 use Rattle.frame.specs.Answers.{answer_bytes}

@@ -13,6 +13,7 @@ use frame::{Answer, Frame, check_list};
 use verdict::{Fault, Refusal};
 
 // The checks of a list without a wire, in order, where the output has this many bytes. Ok says how many of them the answers take.
+// List and events stay two parameters, as the C interface has them: a struct of both would be made only to be taken apart in each call.
 fn check_plan(board: Board, list: &[u8], events: &[u8], room: usize) -> Result<usize, Refusal>
     ensures { (answers : List ℕ) → length answers ≡ room → said result ≡ planning board list.now events.now answers }
 {

@@ -16,6 +16,7 @@ use phy::Phy;
 use verdict::Fault;
 use wire::Header;
 
+// No `From`: Rust takes it only in the crate of one of the two types, and neither is of this one.
 fn header_for(transaction: Transaction) -> Header
     ensures { result ≡ header_for transaction }
 {
@@ -28,48 +29,53 @@ fn header_for(transaction: Transaction) -> Header
 }
 
 // The clocks of a transaction before the one in which it acts; past the list's end there are none.
-fn lead_of(record: Result<Transaction, Fault>) -> usize
-    ensures { result ≡ lead_of (judged record) }
+#[tactic(auto, unfolding(crate::specs::Transact::clocks_before))]
+fn lead_of(parsed: Result<Transaction, Fault>) -> usize
+    ensures { result ≡ lead_of (judged parsed) }
 {
-    let Ok(transaction) = record else {
-        return 0;
-    };
-    if transaction.op == Transaction::READ {
-        return Frame::READ_ACTS - 1;
+    match parsed {
+        Ok(transaction) if transaction.op == Transaction::READ => Frame::READ_ACTS - 1,
+        Ok(_) => Frame::WRITE_ACTS - 1,
+        Err(_) => 0,
     }
-    Frame::WRITE_ACTS - 1
 }
 
 // What a transaction does to a PHY in the clock in which it acts.
+#[tactic(auto, unfolding(crate::specs::Transact::after_act))]
 fn after_act(phy: Phy, transaction: Transaction) -> Phy
     ensures { result ≡ after_act transaction phy }
 {
     let header = header_for(transaction);
     if transaction.op == Transaction::READ {
-        return phy.after_header(header);
+        phy.after_header(header)
+    } else {
+        phy.after_frame(header, transaction.data)
     }
-    phy.after_frame(header, transaction.data)
 }
 
 // The answer where no PHY takes the transaction's address.
+#[tactic(auto, unfolding(crate::specs::Transact::answer_of))]
 fn unanswered(transaction: Transaction) -> Answer
     ensures { result ≡ answer_of transaction [] }
 {
     if transaction.op == Transaction::READ {
-        return transaction.answer(Answer::SILENT, 0);
+        transaction.answer(Answer::SILENT, 0)
+    } else {
+        transaction.answer(Answer::SENT, transaction.data)
     }
-    transaction.answer(Answer::SENT, transaction.data)
 }
 
 // The answer where a PHY does.
+#[tactic(auto, unfolding(crate::specs::Transact::answer_of))]
 fn answer_of(phy: Phy, transaction: Transaction) -> Answer
     ensures { result ≡ answer_of transaction (phy ∷ []) }
 {
     let header = header_for(transaction);
     if phy.own.answers(header) {
-        return transaction.answer(Answer::ANSWERED, phy.word(header.register));
+        transaction.answer(Answer::ANSWERED, phy.word(header.register))
+    } else {
+        unanswered(transaction)
     }
-    unanswered(transaction)
 }
 
 // All transactions of a list that is not refused. A turn is an event that is due before the next transaction acts, or else
@@ -84,31 +90,33 @@ pub(crate) fn transact_all(
     requires { planning board list.now events.now answers.old ≡ Done (records list_record list.now * answer_record) }
     ensures { Transacted board list.now events.now answers.old result answers.new }
 {
-    let count = board.count;
-    let owns = owns_of(board);
+    let places = owns_of(board);
+    let owns = &places[..board.count];
+    // A turn counts up one of the two; a `for` over transactions would need a loop over their events inside it, and one more behind it.
     let mut next: usize = 0;
     let mut k: usize = 0;
     loop {
-        let record = parsed_at(list, k);
-        let clock = k * Frame::CLOCKS + lead_of(record);
+        let parsed = parsed_at(list, k);
+        let clock = k * Frame::CLOCKS + lead_of(parsed);
         if is_due(events, next, clock) {
-            if let Some(i) = place_of(&owns[..count], address_of(events, next)) {
+            if let Some(i) = place_of(owns, address_of(events, next)) {
                 board.phys[i] = board.phys[i].event(code_of(events, next));
             }
             next += 1;
             continue;
         }
-        let Ok(transaction) = record else {
+        let Ok(transaction) = parsed else {
             return board;
         };
-        let at = k * Answer::BYTES;
-        let end = at + Answer::BYTES;
-        k += 1;
-        if let Some(i) = taker_of(&owns[..count], transaction.address) {
-            answer_of(board.phys[i], transaction).put(&mut answers[at..end]);
+        let answer = if let Some(i) = taker_of(owns, transaction.address) {
+            let answer = answer_of(board.phys[i], transaction);
             board.phys[i] = after_act(board.phys[i], transaction);
+            answer
         } else {
-            unanswered(transaction).put(&mut answers[at..end]);
-        }
+            unanswered(transaction)
+        };
+        let at = k * Answer::BYTES;
+        answer.put(&mut answers[at..at + Answer::BYTES]);
+        k += 1;
     }
 }

@@ -30,10 +30,3 @@ returns-then-answers c =
     let answered = sym (c.answers.ensures ∙ ap (λ h. answers h phy.own) header) ∙ c.if-answers.true in
     rw (read_only t phy answered, answered)
     (c.answer.ensures ∙ ap (answer_to t 1) (c.word.ensures ∙ ap (λ h. register_of h.register phy) header))
-
-pub returns : goal.returns
-unfolding answer_of
-returns c =
-    let phy = c.args.phy in
-    let silent = sym (c.answers.ensures ∙ ap (λ h. answers h phy.own) c.header_for-header.ensures) ∙ c.if-answers.false in
-    rw silent c.unanswered.ensures

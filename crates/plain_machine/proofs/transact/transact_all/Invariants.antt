@@ -6,10 +6,10 @@ use Rattle.board.specs.Events.{event_record}
 use Rattle.plain_machine.proofs.Stands.{Stands}
 use Rattle.plain_machine.proofs.transact.transact_all.Given as goal
 
-abbrev pub invariant-loop-parse : goal.invariant-loop-parse
-invariant-loop-parse l = Stands l.list l.events l.initial.answers l.initial.board l.answers l.board l.next l.k
+abbrev pub invariant-loop-parsed : goal.invariant-loop-parsed
+invariant-loop-parsed l = Stands l.list l.events l.initial.answers l.initial.board l.answers l.board l.next l.k
 
 -- events and transactions that are left
-abbrev pub decreases-loop-parse : goal.decreases-loop-parse
-decreases-loop-parse l =
+abbrev pub decreases-loop-parsed : goal.decreases-loop-parsed
+decreases-loop-parsed l =
     (records event_record l.events - l.next) + (records list_record l.list - l.k)
