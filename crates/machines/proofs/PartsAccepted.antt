@@ -245,7 +245,7 @@ module _ (board : Board) (a b events : List ℕ) where
       }
 
   -- By what `run` promises: where the whole succeeds and there is room for their logs, both parts succeed; so a run may be stopped anywhere and gone on with
-  module _ (typed : TypedBoard board) {out out₁ out₂ : List ℕ} {whole first second : Outcome} {log log₁ log₂ : List ℕ} {n : ℕ}
+  module _ (typed : TypedBoard board) {out out₁ out₂ : List ℕ} {whole first second : Told} {log log₁ log₂ : List ℕ} {n : ℕ}
       (runs-whole : Ran board (a ++ b) events out whole log) (done : whole.verdict ≡ Done n)
       (runs-first : Ran board a early out₁ first log₁) (room₁ : length a * log_record ≤ length out₁)
       (runs-second : Ran first.board b late out₂ second log₂) (room₂ : length b * log_record ≤ length out₂) where

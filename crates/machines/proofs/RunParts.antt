@@ -99,7 +99,7 @@ module _ (board : Board) (a b events : List ℕ) {early late : List ℕ} (apart 
       ∙ ap₂ (λ (xs ys : List ℕ). xs ++ ys) first-log (ap₂ (λ who clocks. join (map (clock_record who) clocks)) (sym same-addresses) rest)
 
 -- what a run that succeeds leaves, and the log that it wrote
-module _ (board : Board) (steps events : List ℕ) {out : List ℕ} {r : Outcome} {out' : List ℕ} {n : ℕ} (ran : Ran board steps events out r out') (done : r.verdict ≡ Done n) where
+module _ (board : Board) (steps events : List ℕ) {out : List ℕ} {r : Told} {out' : List ℕ} {n : ℕ} (ran : Ran board steps events out r out') (done : r.verdict ≡ Done n) where
   answer : running board steps events out ≡ Done n
   answer = sym ran.writes.verdict ∙ done
 
@@ -127,7 +127,7 @@ module _ (board : Board) (a b events : List ℕ) where
   log-in-parts = log-apart board a b events (taken-apart (length a) events)
 
   -- By what `run` promises: where the three calls succeed, the two parts leave the board that the whole leaves, and their logs are its log
-  module _ {out out₁ out₂ : List ℕ} {whole first second : Outcome} {log log₁ log₂ : List ℕ} {n n₁ n₂ : ℕ}
+  module _ {out out₁ out₂ : List ℕ} {whole first second : Told} {log log₁ log₂ : List ℕ} {n n₁ n₂ : ℕ}
       (runs-whole : Ran board (a ++ b) events out whole log) (done : whole.verdict ≡ Done n)
       (runs-first : Ran board a early out₁ first log₁) (done₁ : first.verdict ≡ Done n₁)
       (runs-second : Ran first.board b late out₂ second log₂) (done₂ : second.verdict ≡ Done n₂) where

@@ -149,7 +149,7 @@ module _ {n : ℕ} {board : Board} (is : SoundBoard n board) where
       }
 
   -- a refusal hands the same board back, a success the board after it
-  pub handed-back-sound : {answer : Verdict} {result : List ℕ} {after : Board} {out : List ℕ} {r : Outcome} {out' : List ℕ} → SoundBoard n after → HandsBack answer result after board out r out' → SoundBoard n r.board
+  pub handed-back-sound : {answer : Verdict} {result : List ℕ} {after : Board} {out : List ℕ} {r : Told} {out' : List ℕ} → SoundBoard n after → HandsBack answer result after board out r out' → SoundBoard n r.board
   handed-back-sound {answer} {after = after} sound back = subst (SoundBoard n) (sym back.board) (go answer)
     where
       go : (v : Verdict) → SoundBoard n (handed_back v after board)
@@ -166,7 +166,7 @@ module _ {n : ℕ} {board : Board} (is : SoundBoard n board) where
       run_sound = changed-sound run-keeps
 
       -- what `run` promises keeps a board sound
-      pub ran-sound : {out : List ℕ} {r : Outcome} {out' : List ℕ} → Ran board steps events out r out' → SoundBoard n r.board
+      pub ran-sound : {out : List ℕ} {r : Told} {out' : List ℕ} → Ran board steps events out r out' → SoundBoard n r.board
       ran-sound ran = handed-back-sound run_sound ran
 
     -- any list and any events
@@ -182,5 +182,5 @@ module _ {n : ℕ} {board : Board} (is : SoundBoard n board) where
       plain-sound = changed-sound plain-keeps
 
       -- what `plain` promises keeps a board sound
-      pub planned-sound : {out : List ℕ} {r : Outcome} {out' : List ℕ} → Planned board list events out r out' → SoundBoard n r.board
+      pub planned-sound : {out : List ℕ} {r : Told} {out' : List ℕ} → Planned board list events out r out' → SoundBoard n r.board
       planned-sound planned = handed-back-sound plain-sound planned
