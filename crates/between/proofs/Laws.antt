@@ -7,7 +7,9 @@ use Rattle.verdict.specs.Refusal.{Done, Refused}
 use Rattle.verdict.specs.Output.{written}
 use Rattle.verdict.proofs.Outputs.{writes-unique, refuses, succeeds}
 use Rattle.board.specs.declared.Board.{Board}
-use Rattle.board.specs.Outcome.{Told}
+use Rattle.board.specs.declared.Outcome.{Outcome}
+use Rattle.board.specs.Outcome.{Told, told}
+use Rattle.board.proofs.Unique.{one_outcome}
 use Rattle.between.specs.Outcome.{HandsBack}
 
 module _ {answer : Verdict} {result : List ℕ} {after before : Board} {out : List ℕ} where
@@ -16,6 +18,12 @@ module _ {answer : Verdict} {result : List ℕ} {after before : Board} {out : Li
   hands-back-unique p q =
       let same = writes-unique p.writes q.writes in
       (λ i. record { verdict = same.0 i; board = (p.board ∙ sym q.board) i }, same.1)
+
+  -- and so are the outcomes that tell them
+  pub outcome-unique : {r s : Outcome} {out₁ out₂ : List ℕ} → HandsBack answer result after before out (told r) out₁ → HandsBack answer result after before out (told s) out₂ → (r ≡ s) × (out₁ ≡ out₂)
+  outcome-unique {r} {s} p q =
+      let same = hands-back-unique p q in
+      (one_outcome r s same.0, same.1)
 
   -- a refusal leaves board and output as they were
   pub refuses-back : {verdict : Verdict} {c k : ℕ} → answer ≡ Refused c k → verdict ≡ Refused c k → HandsBack answer result after before out (record { verdict = verdict; board = before }) out
