@@ -1,13 +1,12 @@
 -- The first element that passes a test: it passes, none before it does, and where no two pass it is the only one. So an event is made at one place: that of the PHY at its address.
-use Prim.Native.Nat.{ℕ, zero, suc, ◌+◌, ◌≤◌, ◌<◌, min}
+use Prim.Native.Nat.{ℕ, zero, suc, ◌≤◌, ◌<◌}
 use mathlib.Core.Path.{◌≡◌, refl, sym, ap, ap₂, ◌∙◌}
 use mathlib.Core.Bool.{Bool, true, false, cond}
 use mathlib.Core.List.{List, [], ◌∷◌, map}
 use native.Mathlib.Omega.{arith}
-use native.Mathlib.Numerals.{add-one, one-add}
-use lib.ListN.{length, length-map, get_or, take, drop, set, length-take, drop_of_length-le}
-use lib.Seq.{drop-cons, get_or-take}
-use Rattle.std.specs.Prelude.{Option, Some, None}
+use native.Mathlib.Numerals.{one-add}
+use lib.ListN.{length, length-map, get_or, set}
+use Rattle.std.specs.Prelude.{Some, None}
 use Rattle.std.specs.List.{position}
 use lib.Dec.{ltb}
 use borrow.Author.Tests.{ltb-true, ltb-false}
