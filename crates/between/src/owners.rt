@@ -7,8 +7,8 @@ ghost use Rattle.between.specs.Happened.{place_of, taker_of, found_at};
 use board::Board;
 use phy::Own;
 
-// Who frames are for, place by place. A call reads the caller's board where it lies; inlined, the compiler copies the board first, and the
-// plain machine then needs the stack of one board more.
+// Who frames are for, place by place. A call reads the caller's board where it lies. It is never inlined, so that no compiler copies the
+// board for it first: the plain machine would then need the stack of one board more.
 #[inline(never)]
 pub fn owns_of(board: Board) -> [Own; 32]
     ensures { result ≡ owns_of board.phys }
