@@ -6,10 +6,10 @@ use mathlib.Core.List.{List, [], ◌∷◌, map}
 use native.Mathlib.Omega.{arith}
 use native.Mathlib.Numerals.{one-add}
 use lib.ListN.{length, length-map, get_or, set}
-use Rattle.std.specs.Prelude.{Some, None}
-use Rattle.std.specs.List.{position}
 use lib.Dec.{ltb}
 use borrow.Author.Tests.{ltb-true, ltb-false}
+use Rattle.std.specs.Prelude.{Some, None}
+use Rattle.std.specs.List.{position}
 use Rattle.std.proofs.lemmas.List.Recursion.{is_position_or_len}
 use Rattle.between.specs.Happened.{first_of, found_at}
 use Rattle.between.proofs.Places.{unchanged, changed-at}
