@@ -1,12 +1,13 @@
 // What is heard in a clock: the level, and who drives.
 ghost use Rattle.std.specs.Prelude.{◌≡◌, ◌≤◌, ◌<◌, length, take};
-ghost use Rattle.wire.specs.Wire.{station_drive, as_bit};
+ghost use Rattle.wire.specs.Wire.{station_drive};
 ghost use Rattle.verdict.specs.Lists.{All};
 ghost use Rattle.wire_machine.specs.Common.{alike_by, standing};
 ghost use Rattle.wire_machine.specs.Lines.{heard_station, hears_drive, heard_from, record_of};
 
 use crate::common::Common;
 use crate::line::Line;
+use frame::Step;
 use wire::{Drive, Follower};
 
 #[derive(Clone, Copy)]
@@ -25,16 +26,10 @@ pub(crate) fn station_drive(step: u8) -> Drive
     ensures { result ≡ station_drive step }
 {
     match step {
-        0 => Drive::Driven(false),
-        1 => Drive::Driven(true),
+        Step::DRIVE_ZERO => Drive::Driven(false),
+        Step::DRIVE_ONE => Drive::Driven(true),
         _ => Drive::Released,
     }
-}
-
-fn bit_of(level: bool) -> u8
-    ensures { result ≡ as_bit level }
-{
-    if level { 1 } else { 0 }
 }
 
 impl Heard {
@@ -57,7 +52,7 @@ impl Heard {
                 mask: 0,
             },
             Drive::Driven(level) => Heard {
-                level: level,
+                level,
                 station: true,
                 some: true,
                 several: false,
@@ -67,40 +62,34 @@ impl Heard {
     }
 
     // One PHY more: its address, and what it drives.
+    #[tactic(auto, using(crate::proofs::Lines::mark_set), unfolding(crate::specs::Lines::hears_drive))]
     fn with(self, address: u8, drive: Drive) -> Heard
         requires { address < 32 }
         ensures { result ≡ hears_drive address drive self }
     {
-        let Drive::Driven(level) = drive else {
-            return Heard {
-                level: self.level,
-                station: self.station,
-                some: self.some,
-                several: self.several,
-                mask: self.mask,
-            };
-        };
-        Heard {
-            level: self.level & level,
-            station: self.station,
-            some: true,
-            several: self.several | self.some,
-            mask: self.mask | (1 << address),
+        match drive {
+            Drive::Released => self,
+            Drive::Driven(level) => Heard {
+                level: self.level & level,
+                some: true,
+                several: self.several | self.some,
+                mask: self.mask | (1 << address),
+                ..self
+            },
         }
     }
 
     // Writes the clock's record to a part of the log.
+    #[tactic(auto, unfolding(crate::specs::Lines::record_of))]
     pub(crate) fn put(self, part: &mut [u8])
         requires { 5 ≡ length part.old }
         ensures { part.new ≡ record_of self }
     {
-        part[0] = bit_of(self.level) * Heard::LEVEL
-            + bit_of(self.station) * Heard::STATION
-            + bit_of(self.several) * Heard::SEVERAL;
-        part[1] = (self.mask / 0x100_0000 % 256) as u8;
-        part[2] = (self.mask / 0x1_0000 % 256) as u8;
-        part[3] = (self.mask / 256 % 256) as u8;
-        part[4] = (self.mask % 256) as u8;
+        let flags = u8::from(self.level) * Heard::LEVEL
+            + u8::from(self.station) * Heard::STATION
+            + u8::from(self.several) * Heard::SEVERAL;
+        let [high, mid_high, mid_low, low] = self.mask.to_be_bytes();
+        part.copy_from_slice(&[flags, high, mid_high, mid_low, low]);
     }
 }
 
