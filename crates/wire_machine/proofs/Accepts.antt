@@ -1,6 +1,6 @@
 -- What is known of a run that is not refused.
 use Prim.Native.Nat.{ℕ, ◌*◌, ◌≤◌, ◌<◌}
-use mathlib.Core.Path.{◌≡◌}
+use mathlib.Core.Path.{◌≡◌, sym, ap, ◌∙◌}
 use mathlib.Core.List.{List}
 use native.Mathlib.Omega.{arith}
 use lib.ListN.{length}
@@ -9,7 +9,7 @@ use Rattle.verdict.specs.Refusal.{Done}
 use Rattle.verdict.specs.Refusal.{wrong_step}
 use Rattle.verdict.specs.File.{records}
 use Rattle.verdict.proofs.Checks.{accepted, passed-bytes, done-by}
-use Rattle.verdict.proofs.Outputs.{room_fits}
+use Rattle.verdict.proofs.Outputs.{room-done, room_fits}
 use Rattle.frame.specs.Steps.{most_steps, largest_step}
 use Rattle.board.specs.declared.Board.{Board}
 use Rattle.board.specs.Check.{places, checked}
@@ -51,6 +51,23 @@ goes board steps events log m long e =
       named = λ k h. accepted-place board sound full events on-steps.count on-events.count on-events.passes k (omega (arith, all.count));
       room = omega (arith, pass.count, room_fits log (on-steps.count * 5) m on-events.rest);
     }
+
+-- the steps that pass are counted, and they are few enough
+pub counted : (steps : List ℕ) (n : ℕ) → steps_verdict steps ≡ Done n → (n ≡ length steps) × (length steps ≤ most_steps)
+counted steps n e =
+    let pass = passed-bytes most_steps largest_step wrong_step steps n e in
+    (pass.count, pass.few)
+
+-- a run that is not refused writes a record of each step
+pub writes-all : (board : Board) (steps events log : List ℕ) (m : ℕ) → running board steps events log ≡ Done m → running board steps events log ≡ Done (length steps * 5)
+writes-all board steps events log m e =
+    let on-board = done-by (checked board) _ e in
+    let on-steps = done-by (steps_verdict steps) _ on-board.rest in
+    let on-events = done-by (events_verdict board events on-steps.count) _ on-steps.rest in
+    e
+    ∙ sym on-events.rest
+    ∙ room-done log (on-steps.count * 5) (room_fits log (on-steps.count * 5) m on-events.rest)
+    ∙ ap (λ n. Done (n * 5)) (counted steps on-steps.count on-steps.passes).0
 
 -- where a run is not refused its board uses 32 places at most
 pub few_places : (board : Board) (steps events log : List ℕ) (m : ℕ) → length board.phys ≡ 32 → running board steps events log ≡ Done m → board.count ≤ 32

@@ -37,7 +37,7 @@ use Rattle.between.proofs.EachPlace.{keeps-closed, each_keeps}
 use Rattle.wire_machine.proofs.RunEach.{run-changes}
 
 -- two results that meet the promise of `run` are equal, as are the logs
-pub run-unique : (board : Board) (steps events log : List ℕ) {r s : Outcome} {log₁ log₂ : List ℕ} → Ran board steps events log r log₁ → Ran board steps events log s log₂ → (r ≡ s) × (log₁ ≡ log₂)
+pub run-unique : (board : Board) (steps events log : List ℕ) {r s : Told} {log₁ log₂ : List ℕ} → Ran board steps events log r log₁ → Ran board steps events log s log₂ → (r ≡ s) × (log₁ ≡ log₂)
 run-unique board steps events log p q = hands-back-unique p q
 
 -- The flags: "1 level, 2 station drives, 4 two or more parties drive"
