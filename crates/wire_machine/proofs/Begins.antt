@@ -2,17 +2,16 @@
 use Prim.Native.Nat.{ℕ, suc, ◌+◌, ◌*◌, ◌-◌, ◌≤◌, ◌<◌}
 use mathlib.Core.Path.{◌≡◌, refl, sym, ap, ap₂, subst, ◌∙◌}
 use mathlib.Core.Bool.{false}
-use mathlib.Core.List.{List, [], ◌∷◌, map}
+use mathlib.Core.List.{List, [], ◌∷◌, map, append-nil}
 use native.Mathlib.Omega.{arith}
 use native.Mathlib.Numerals.{add-one}
 use borrow.Rule.Slice.PartMut.{put_mid}
-use lib.ListN.{length, get_or, take, drop}
-use lib.Seq.{take-length, take_at, get_or-take}
+use lib.ListN.{length, get_or, drop, drop_of_length-le}
+use lib.Seq.{take-length, get_or-take}
 use borrow.Author.Tests.{ltb-false}
 use Rattle.verdict.specs.File.{byte_at}
 use Rattle.verdict.specs.Lists.{All}
-use Rattle.verdict.specs.Output.{tabulate, join, written}
-use Rattle.verdict.proofs.Lists.{length-tabulate}
+use Rattle.verdict.specs.Output.{join, written}
 use Rattle.verdict.proofs.Elements.{all-places, map-then}
 use Rattle.verdict.proofs.Outputs.{filled, pieced, length-pieced, piece-next, pieced-all}
 use Rattle.wire.specs.declared.Drive.{Drive}
@@ -42,11 +41,10 @@ use Rattle.wire_machine.proofs.Stands.{piece, phys, joined, Stands, shown, lengt
 use Rattle.wire_machine.proofs.Accepts.{Goes}
 
 -- where every place that is used has its line, so has each PHY
-pub lines-filled : (board : Board) (old : List Line) {lines : List Line} → board.count ≤ length board.phys → lines ≡ filled (λ k. line_of (get_or board.phys k nowhere)) old board.count → take board.count lines ≡ map line_of (phys_of board)
-lines-filled board old few is =
-    ap (take board.count) is
-    ∙ take_at (tabulate board.count (λ k. line_of (get_or board.phys k nowhere))) (drop board.count old) board.count (length-tabulate board.count _)
-    ∙ tabulate-map line_of board.count board.phys nowhere few
+pub lines-filled : (board : Board) (old lines : List Line) → board.count ≤ length board.phys → length old ≡ board.count → lines ≡ filled (λ k. line_of (get_or board.phys k nowhere)) old board.count → lines ≡ map line_of (phys_of board)
+lines-filled board old lines few same is =
+    let none : drop board.count old ≡ [] = drop_of_length-le old {i = board.count} (omega arith) in
+    is ∙ rw (none, append-nil) (tabulate-map line_of board.count board.phys nowhere few)
 
 -- a fact on addresses is one on PHYs, and on their lines
 addresses-of-lines : (phys : List Phy) → All (λ address. address < 32) (addresses_of phys) → All (λ line. line.own.address < 32) (map line_of phys)
@@ -76,7 +74,7 @@ module _ {board : Board} {steps events log₀ : List ℕ} (run : Goes board step
     abbrev start : List Phy
     start = at_start board events
 
-    lines_are : take board.count lines ≡ map line_of (phys events steps log₀ board c)
+    lines_are : lines ≡ map line_of (phys events steps log₀ board c)
     lines_are = (shown events steps log₀ board run.full run.rising stands due).lines_are
 
     addresses-are : addresses_of (phys events steps log₀ board c) ≡ addresses_of (phys_of board)
@@ -85,14 +83,14 @@ module _ {board : Board} {steps events log₀ : List ℕ} (run : Goes board step
         owns-addresses (phys events steps log₀ board c) (phys_of board) (owns-stay events steps start c ∙ map-then own (happens events 0) own (happens-own events 0) (phys_of board))
 
     -- every line has an address that a mask has a bit for
-    pub lines-small : All (λ line. line.own.address < 32) (take board.count lines)
+    pub lines-small : All (λ line. line.own.address < 32) lines
     lines-small =
         subst (All (λ line. line.own.address < 32)) (sym lines_are)
         (addresses-of-lines (phys events steps log₀ board c)
         (subst (All (λ address. address < 32)) (sym addresses-are) (small-addresses board run.sound run.full)))
 
     -- what is heard in the next clock
-    module _ (drive : Drive) (heard : Heard) (station : drive ≡ station_drive (byte_at steps c)) (hears : heard ≡ heard_from (heard_station drive) (take board.count lines)) where
+    module _ (drive : Drive) (heard : Heard) (station : drive ≡ station_drive (byte_at steps c)) (hears : heard ≡ heard_from (heard_station drive) lines) where
       heard-is : heard ≡ heard_of (station_in events steps start c) (phys events steps log₀ board c)
       heard-is = hears ∙ ap₂ (λ d ls. heard_from (heard_station d) ls) station lines_are
 

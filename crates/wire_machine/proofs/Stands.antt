@@ -48,16 +48,13 @@ pub record Shows (start now : Board) (lines : List Line) (phys : List Phy) : Typ
   pub counted : now.count ≡ start.count
   pub beyond : drop start.count now.phys ≡ drop start.count start.phys
   pub bares : map bare (take start.count now.phys) ≡ map bare phys
-  pub lines_are : take start.count lines ≡ map line_of phys
+  pub lines_are : lines ≡ map line_of phys
 
 module _ {start now : Board} {lines : List Line} {phys : List Phy} (shows : Shows start now lines phys) where
   -- one PHY more is another, as its line shows
   module _ (i : ℕ) (there : i < start.count) (phy after : Phy) (line : Line) (line-is : line ≡ line_of after) where
-    lines-set : take start.count (set lines i line) ≡ map line_of (set phys i after)
-    lines-set =
-        take-set-lt start.count lines i line there
-        ∙ ap₂ (λ ls l. set ls i l) shows.lines_are line-is
-        ∙ sym (map-set line_of phys i after)
+    lines-set : set lines i line ≡ map line_of (set phys i after)
+    lines-set = ap₂ (λ ls l. set ls i l) shows.lines_are line-is ∙ sym (map-set line_of phys i after)
 
     -- it acted: the whole PHY is put in its place
     pub acted : phy ≡ after → Shows start (record { count = now.count; phys = set now.phys i phy }) (set lines i line) (set phys i after)
@@ -96,8 +93,7 @@ module _ {start now : Board} {lines : List Line} {phys : List Phy} (shows : Show
       pub line_at : get_or lines i no_line ≡ line_of (get_or phys i nowhere)
       line_at =
           let here : i < length (map line_of phys) = omega (arith, length-map phys line_of) in
-          sym (get_or-take start.count lines i no_line there)
-          ∙ ap (λ xs. get_or xs i no_line) shows.lines_are
+          ap (λ xs. get_or xs i no_line) shows.lines_are
           ∙ within (map line_of phys) i no_line (line_of nowhere) here
           ∙ get_or-map line_of phys i nowhere
 
@@ -166,7 +162,7 @@ module _ (events steps log₀ : List ℕ) (board : Board) where
     pub to-come : to_come events c next waiting ≡ phys c
 
   -- before the first clock
-  pub begins : (lines : List Line) → take board.count lines ≡ map line_of (phys_of board) → Stands log₀ board 0 lines 0
+  pub begins : (lines : List Line) → lines ≡ map line_of (phys_of board) → Stands log₀ board 0 lines 0
   unfolding runs tabulate join
   begins lines are =
       record {
@@ -188,7 +184,7 @@ module _ (events steps log₀ : List ℕ) (board : Board) where
         ∙ owns-stay events steps (at_start board events) c
         ∙ map-then own (happens events 0) own (happens-own events 0) (phys_of board)
 
-    waiting-full : length stands.waiting ≡ board.count
+    pub waiting-full : length stands.waiting ≡ board.count
     waiting-full = owns-length stands.waiting (phys_of board) owns-are ∙ full
 
     -- an event of the clock happens, at the place of its address

@@ -1,5 +1,7 @@
 -- What all lines have in common: in most clocks the followers of all PHYs are the same, and then one follower tells for all lines.
-use Rattle.std.specs.Prelude.{◌+◌, ◌-◌, Bool, true, false, not, ◌&&◌, ◌||◌, cond, List, map, eqb, ltb, leb}
+use Rattle.std.specs.Prelude.{◌+◌, ◌-◌, Bool, true, false, not, ◌&&◌, ◌||◌, cond, List, [], ◌∷◌, map, eqb, ltb, leb, Some, None, unwrap_or, option_map}
+use Rattle.std.specs.List.{list_all}
+use Rattle.std.specs.Option.{option_map_or}
 use Rattle.frame.specs.Frame.{preamble, header_bits, frame_bits}
 use Rattle.frame.specs.List.{read}
 use Rattle.wire.specs.declared.Follower.{Follower}
@@ -12,15 +14,11 @@ use Rattle.wire_machine.specs.Lines.{line_with}
 
 -- nothing is common
 abbrev pub apart : Common
-apart = record { alike = false; follower = Hunting 0 }
+apart = record { follower = None }
 
 -- a follower is common
 abbrev pub alike_by : Follower → Common
-alike_by follower = record { alike = true; follower = follower }
-
--- one line's follower, before it is held against others
-abbrev pub led_by : Line → Common
-led_by line = alike_by line.follower
+alike_by follower = record { follower = Some follower }
 
 abbrev pub same_follower : Follower → Follower → Bool
 same_follower (Hunting ones) (Hunting others) = eqb ones others
@@ -28,14 +26,14 @@ same_follower (Hunting ones) (Inside seen bits) = false
 same_follower (Inside seen bits) (Hunting ones) = false
 same_follower (Inside seen bits) (Inside seen' bits') = eqb seen seen' && eqb bits bits'
 
--- one line more: it has the same follower, or the lines are not alike
-unfoldable pub common_with : Line → Common → Common
-common_with line common =
-    record { alike = common.alike && same_follower common.follower line.follower; follower = common.follower }
+-- what lines have in common by what each says of itself: all have the first one's follower, or they are not alike
+unfoldable pub common_of : List Line → Common
+common_of [] = apart
+common_of (line ∷ lines) = cond (list_all (λ other. same_follower other.follower line.follower) (line ∷ lines)) (alike_by line.follower) apart
 
 -- a line as it stands, and all lines
 unfoldable pub stands : Common → Line → Line
-stands common line = cond common.alike (line_with common.follower line) line
+stands common line = line_with (unwrap_or common.follower line.follower) line
 
 abbrev pub standing : Common → List Line → List Line
 standing common lines = map (stands common) lines
@@ -51,7 +49,7 @@ silent_in (Inside seen bits) =
     ltb seen (header_bits + 1) || (leb seen (frame_bits - 1) && not (asks_to_read (header_seen seen bits)))
 
 abbrev pub is_silent : Common → Bool
-is_silent common = common.alike && silent_in common.follower
+is_silent common = option_map_or silent_in common.follower false
 
 -- with this follower it makes no difference how many ones are enough, and no PHY acts: no frame starts but after a whole preamble, no header ends that asks to read, and no frame ends
 unfoldable pub moves_alike_in : Bool → Follower → Bool
@@ -61,8 +59,8 @@ moves_alike_in level (Inside seen bits) =
     && not (eqb seen (frame_bits - 1))
 
 abbrev pub moves_alike : Bool → Common → Bool
-moves_alike level common = common.alike && moves_alike_in level common.follower
+moves_alike level common = option_map_or (moves_alike_in level) common.follower false
 
 -- what is common after such a clock
 unfoldable pub common_follows : Bool → Common → Common
-common_follows level common = record { alike = common.alike; follower = follow 32 level common.follower }
+common_follows level common = record { follower = option_map (follow 32 level) common.follower }

@@ -31,21 +31,19 @@ fn clock_by_clock(mut board: Board, steps: &[u8], events: &[u8], log: &mut [u8])
     requires { running board steps.now events.now log.old ≡ Done (length steps.now * log_record) }
     ensures { Clocked board steps.now events.now log.old result log.new }
 {
-    let count = board.count;
-    let mut lines = [Line::of(board.phys[0]); 32];
-    let mut place: usize = 0;
-    while place < count {
-        lines[place] = Line::of(board.phys[place]);
-        place += 1;
+    let mut places = [Line::from(board.phys[0]); 32];
+    let lines = &mut places[..board.count];
+    for (i, line) in lines.iter_mut().enumerate() {
+        *line = Line::from(board.phys[i]);
     }
-    let mut common = Common::apart();
+    let mut common = Common::APART;
     let mut next: usize = 0;
     let mut c: usize = 0;
     loop {
         if is_due(events, next, c) {
-            let i = place_in(lines, count, address_of(events, next));
-            let phy = board.phys[i].event(code_of(events, next));
-            board.phys[i] = phy;
+            if let Some(i) = place_in(lines, address_of(events, next)) {
+                board.phys[i] = board.phys[i].event(code_of(events, next));
+            }
             next += 1;
             continue;
         }
@@ -56,32 +54,27 @@ fn clock_by_clock(mut board: Board, steps: &[u8], events: &[u8], log: &mut [u8])
         let heard = if common.is_silent() {
             Heard::station(drive)
         } else {
-            hear(lines, common, count, drive)
+            hear(lines, common, drive)
         };
         let at = c * Frame::LOG_RECORD;
-        let end = at + Frame::LOG_RECORD;
-        heard.put(&mut log[at..end]);
+        heard.put(&mut log[at..at + Frame::LOG_RECORD]);
         let level = heard.level;
         c += 1;
         if common.moves_alike(level) {
             common = common.follows(level);
             continue;
         }
-        let mut gathered = Common::led_by(common.stands(lines[0]).follows(level));
-        let mut i: usize = 0;
-        while i < count {
-            let line = common.stands(lines[i]);
-            if line.acts() {
-                let phy = line.onto(board.phys[i]).clock(level);
+        for (i, line) in lines.iter_mut().enumerate() {
+            let stands = common.stands(*line);
+            if stands.acts() {
+                let phy = stands.onto(board.phys[i]).clock(level);
                 board.phys[i] = phy;
-                lines[i] = Line::of(phy);
+                *line = Line::from(phy);
             } else {
-                lines[i] = line.follows(level);
+                *line = stands.follows(level);
             }
-            gathered = gathered.with(lines[i]);
-            i += 1;
         }
-        common = gathered;
+        common = Common::of(lines);
     }
 }
 

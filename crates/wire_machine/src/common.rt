@@ -1,7 +1,7 @@
 // What all lines have in common. In most clocks every PHY's follower is the same and moves by the level alone: then one
 // follower tells for all lines.
 ghost use Rattle.std.specs.Prelude.{◌≡◌};
-ghost use Rattle.wire_machine.specs.Common.{apart, led_by, stands, asks_to_read, is_silent, moves_alike, common_follows, same_follower, common_with};
+ghost use Rattle.wire_machine.specs.Common.{common_of, stands, asks_to_read, silent_in, is_silent, moves_alike_in, moves_alike, common_follows};
 
 use crate::line::Line;
 use frame::Transaction;
@@ -10,9 +10,8 @@ use wire::{Follower, Header};
 
 #[derive(Clone, Copy)]
 pub(crate) struct Common {
-    // Whether every line's follower is this one. What a line itself says of its follower is then out of date.
-    pub(crate) alike: bool,
-    pub(crate) follower: Follower,
+    // The follower of every line, where all have the same. What a line itself says of its follower is then out of date.
+    pub(crate) follower: Option<Follower>,
 }
 
 // Whether a header of ours asks a PHY to read.
@@ -22,109 +21,92 @@ fn asks_to_read(header: Header) -> bool
     (header.start == Header::OUR_START) & (header.op == Transaction::READ)
 }
 
-fn same_follower(one: Follower, other: Follower) -> bool
-    ensures { result ≡ same_follower one other }
+// Whether no PHY with this follower drives in the next clock: no answer has started, or none was asked for.
+#[tactic(auto, unfolding(crate::specs::Common::silent_in))]
+fn silent_in(follower: Follower) -> bool
+    ensures { result ≡ silent_in follower }
 {
-    match one {
-        Follower::Hunting(ones) => match other {
-            Follower::Hunting(others) => ones == others,
-            Follower::Inside(_, _) => false,
-        },
-        Follower::Inside(seen, bits) => match other {
-            Follower::Hunting(_) => false,
-            Follower::Inside(other_seen, other_bits) => (seen == other_seen) & (bits == other_bits),
-        },
+    match follower {
+        Follower::Hunting(_) => true,
+        Follower::Inside(seen, bits) => {
+            seen < Phy::BEFORE_ANSWER
+                || (seen <= Follower::MOST_SEEN
+                    && !asks_to_read(Header::from(bits >> (seen - Phy::HEADER))))
+        }
+    }
+}
+
+// Whether a clock at this level moves every PHY with this follower alike, and none acts in it.
+#[tactic(auto, unfolding(crate::specs::Common::moves_alike_in))]
+fn moves_alike_in(level: bool, follower: Follower) -> bool
+    ensures { result ≡ moves_alike_in level follower }
+{
+    match follower {
+        Follower::Hunting(ones) => level | (Follower::MOST_ONES <= ones),
+        Follower::Inside(Phy::BEFORE_HEADER, bits) => {
+            let header = Header::from(Follower::one_more(bits, false));
+            !asks_to_read(header)
+        }
+        Follower::Inside(seen, _) => seen != Follower::MOST_SEEN,
     }
 }
 
 impl Common {
     // Nothing: each line has its own follower.
-    pub(crate) fn apart() -> Common
-        ensures { result ≡ apart }
-    {
-        Common {
-            alike: false,
-            follower: Follower::Hunting(0),
-        }
-    }
+    pub(crate) const APART: Common = Common { follower: None };
 
-    // One line's follower, before it is held against those of others.
-    pub(crate) fn led_by(line: Line) -> Common
-        ensures { result ≡ led_by line }
+    // What lines have in common by what each says of itself.
+    #[tactic(auto, unfolding(crate::specs::Common::common_of))]
+    pub(crate) fn of(lines: &[Line]) -> Common
+        ensures { result ≡ common_of lines.now }
     {
-        let follower = line.follower;
-        Common {
-            alike: true,
-            follower: follower,
-        }
-    }
-
-    // One line more: it has the same follower, or the lines are not alike.
-    pub(crate) fn with(self, line: Line) -> Common
-        ensures { result ≡ common_with line self }
-    {
-        let follower = self.follower;
-        let other = line.follower;
-        let same = same_follower(follower, other);
-        Common {
-            alike: self.alike & same,
-            follower: follower,
+        let Some(first) = lines.first() else {
+            return Common::APART;
+        };
+        if lines.iter().all(|line| line.follower == first.follower) {
+            Common {
+                follower: Some(first.follower),
+            }
+        } else {
+            Common::APART
         }
     }
 
     // A line as it stands.
+    #[tactic(auto, unfolding(crate::specs::Common::stands))]
     pub(crate) fn stands(self, line: Line) -> Line
         ensures { result ≡ stands self line }
     {
-        if self.alike {
-            let follower = self.follower;
-            line.with_follower(follower)
-        } else {
-            line
+        Line {
+            follower: self.follower.unwrap_or(line.follower),
+            ..line
         }
     }
 
-    // Whether it is known that no PHY drives in the next clock: no answer has started, or none was asked for.
+    // Whether it is known that no PHY drives in the next clock.
     pub(crate) fn is_silent(self) -> bool
         ensures { result ≡ is_silent self }
     {
-        let follower = self.follower;
-        let Follower::Inside(seen, bits) = follower else {
-            return self.alike;
-        };
-        if seen < Phy::BEFORE_ANSWER {
-            return self.alike;
-        }
-        if Follower::MOST_SEEN < seen {
-            return false;
-        }
-        self.alike & !asks_to_read(Header::from(bits >> (seen - Phy::HEADER)))
+        self.follower.is_some_and(silent_in)
     }
 
     // Whether it is known that a clock at this level moves every follower alike and that no PHY acts in it.
     pub(crate) fn moves_alike(self, level: bool) -> bool
         ensures { result ≡ moves_alike level self }
     {
-        let follower = self.follower;
-        match follower {
-            Follower::Hunting(ones) => self.alike & (level | (Follower::MOST_ONES <= ones)),
-            Follower::Inside(seen, bits) => {
-                let header = Header::from(Follower::one_more(bits, false));
-                let acts = (seen == Phy::BEFORE_HEADER) & asks_to_read(header);
-                self.alike & (!acts & (seen != Follower::MOST_SEEN))
-            }
-        }
+        self.follower
+            .is_some_and(|follower| moves_alike_in(level, follower))
     }
 
     // What is common after such a clock.
+    #[tactic(auto, unfolding(crate::specs::Common::common_follows))]
     pub(crate) fn follows(self, level: bool) -> Common
         ensures { result ≡ common_follows level self }
     {
-        let follower = self.follower;
-        let next = follower.follow(Follower::MOST_ONES, level);
         Common {
-            alike: self.alike,
-            follower: next,
+            follower: self
+                .follower
+                .map(|follower| follower.follow(Follower::MOST_ONES, level)),
         }
     }
 }

@@ -1,14 +1,14 @@
 // What is heard in a clock: the level, and who drives.
-ghost use Rattle.std.specs.Prelude.{◌≡◌, ◌≤◌, ◌<◌, length, take};
+ghost use Rattle.std.specs.Prelude.{◌≡◌, ◌<◌, length};
 ghost use Rattle.wire.specs.Wire.{station_drive};
 ghost use Rattle.verdict.specs.Lists.{All};
-ghost use Rattle.wire_machine.specs.Common.{alike_by, standing};
+ghost use Rattle.wire_machine.specs.Common.{standing};
 ghost use Rattle.wire_machine.specs.Lines.{heard_station, hears_drive, heard_from, record_of};
 
 use crate::common::Common;
 use crate::line::Line;
 use frame::Step;
-use wire::{Drive, Follower};
+use wire::Drive;
 
 #[derive(Clone, Copy)]
 pub(crate) struct Heard {
@@ -93,37 +93,14 @@ impl Heard {
     }
 }
 
-// What is heard of the station and of the first `count` lines, where all of them follow alike: the header is the same for all.
-fn hear_alike(lines: [Line; 32], follower: Follower, count: usize, drive: Drive) -> Heard
-    requires { (count ≤ 32) × All (λ line. line.own.address < 32) (take count (standing (alike_by follower) lines)) }
-    ensures { result ≡ heard_from (heard_station drive) (take count (standing (alike_by follower) lines)) }
+// What is heard of the station and of all lines, as they stand.
+pub(crate) fn hear(lines: &[Line], common: Common, drive: Drive) -> Heard
+    requires { All (λ line. line.own.address < 32) (standing common lines.now) }
+    ensures { result ≡ heard_from (heard_station drive) (standing common lines.now) }
 {
     let mut heard = Heard::station(drive);
-    let mut i: usize = 0;
-    while i < count {
-        let line = lines[i];
-        let driven = line.own.drives(follower, line.captured);
-        heard = heard.with(line.own.address, driven);
-        i += 1;
-    }
-    heard
-}
-
-// What is heard of the station and of the first `count` lines.
-pub(crate) fn hear(lines: [Line; 32], common: Common, count: usize, drive: Drive) -> Heard
-    requires { (count ≤ 32) × All (λ line. line.own.address < 32) (take count (standing common lines)) }
-    ensures { result ≡ heard_from (heard_station drive) (take count (standing common lines)) }
-{
-    if common.alike {
-        let follower = common.follower;
-        return hear_alike(lines, follower, count, drive);
-    }
-    let mut heard = Heard::station(drive);
-    let mut i: usize = 0;
-    while i < count {
-        let line = lines[i];
-        heard = heard.with(line.own.address, line.drives());
-        i += 1;
+    for line in lines {
+        heard = heard.with(line.own.address, common.stands(*line).drives());
     }
     heard
 }

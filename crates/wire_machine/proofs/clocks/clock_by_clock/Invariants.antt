@@ -1,5 +1,5 @@
 -- Event by event and clock by clock: the specified PHYs are the board's with their lines put back as they stand, and the log has its records. A clock moves the common follower, or goes line by line.
-use Prim.Native.Nat.{◌+◌, ◌-◌, ◌≤◌}
+use Prim.Native.Nat.{◌+◌, ◌-◌}
 use mathlib.Core.Path.{◌≡◌}
 use mathlib.Core.List.{List}
 use lib.ListN.{length, get_or}
@@ -14,25 +14,16 @@ use Rattle.between.proofs.Places.{replaced}
 use Rattle.wire_machine.specs.Lines.{line_of}
 use Rattle.wire_machine.specs.Common.{stands, standing}
 use Rattle.wire_machine.proofs.Stands.{Shows, Stands}
-use Rattle.wire_machine.proofs.Alike.{mixed, Gathered}
+use Rattle.wire_machine.proofs.Alike.{mixed}
 use Rattle.wire_machine.proofs.clocks.clock_by_clock.Given as goal
 
 -- the first places have their lines
-abbrev pub invariant-loop-place : goal.invariant-loop-place
-invariant-loop-place l =
-    (l.place ≤ l.count) × (l.lines ≡ filled (λ k. line_of (get_or l.board.phys k nowhere)) l.initial.lines l.place)
-
-abbrev pub decreases-loop-place : goal.decreases-loop-place
-decreases-loop-place l = l.count - l.place
-
 abbrev pub invariant-loop-i : goal.invariant-loop-i
-invariant-loop-i l =
-    (l.i ≤ l.count) × (length l.lines ≡ length l.initial.lines) × Gathered l.gathered l.i l.lines
-    × ((start : Board) (phys : List Phy) → start.count ≡ l.count → length phys ≡ l.count → Shows start l.initial.board (standing l.common l.initial.lines) phys → Shows start l.board (mixed (stands l.common) l.i l.lines) (replaced (clock l.level) l.i phys))
+invariant-loop-i l = l.lines ≡ filled (λ k. line_of (get_or l.board.phys k nowhere)) l.initial.lines l.i
 
-abbrev pub decreases-loop-i : goal.decreases-loop-i
-decreases-loop-i l =
-    l.count - l.i
+abbrev pub invariant-loop-i-2 : goal.invariant-loop-i-2
+invariant-loop-i-2 l =
+    (start : Board) (phys : List Phy) → start.count ≡ length l.lines → length phys ≡ length l.lines → Shows start l.initial.board (standing l.common l.initial.lines) phys → Shows start l.board (mixed (stands l.common) l.i l.lines) (replaced (clock l.level) l.i phys)
 
 abbrev pub invariant-loop-lines : goal.invariant-loop-lines
 invariant-loop-lines l =

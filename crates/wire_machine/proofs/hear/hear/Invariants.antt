@@ -1,14 +1,10 @@
--- Where the lines are alike, each by the common follower; else line by line, each as it is.
-use Prim.Native.Nat.{◌≤◌, ◌-◌}
+-- Line by line: what is heard of those passed and of those that are left is what is heard of all.
 use mathlib.Core.Path.{◌≡◌}
-use lib.ListN.{take, drop}
-use Rattle.wire_machine.specs.Lines.{heard_from}
-use Rattle.wire_machine.specs.Common.{apart, standing}
+use lib.ListN.{drop}
+use Rattle.wire_machine.specs.Lines.{heard_station, heard_from}
+use Rattle.wire_machine.specs.Common.{standing}
 use Rattle.wire_machine.proofs.hear.hear.Given as goal
 
-abbrev pub invariant-loop-i : goal.invariant-loop-i
-invariant-loop-i l =
-    (l.i ≤ l.count) × (heard_from l.heard (drop l.i (take l.count (standing apart l.lines))) ≡ heard_from l.initial.heard (take l.count (standing apart l.lines)))
-
-abbrev pub decreases-loop-i : goal.decreases-loop-i
-decreases-loop-i l = l.count - l.i
+abbrev pub invariant-loop-line : goal.invariant-loop-line
+invariant-loop-line l =
+    heard_from l.heard (drop l.line-index (standing l.common l.lines)) ≡ heard_from (heard_station l.fn.drive) (standing l.common l.lines)

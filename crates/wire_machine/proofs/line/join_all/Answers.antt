@@ -13,19 +13,17 @@ use Rattle.wire_machine.proofs.line.join_all.Goals as goal
 
 pub loop-i-init : goal.loop-i-init
 unfolding tabulate
-loop-i-init c = (search rules, refl, refl)
+loop-i-init c = (refl, refl)
 
 pub loop-i-preserved : goal.loop-i-preserved
 loop-i-preserved c =
     let loop = c.loop-i in
     let places : length c.args.board.phys ≡ 32 = search rules in
     let common = c.args.common in
-    let long : length c.args.lines ≡ 32 = search rules in
-    let here = c.stands-line.ensures ∙ sym (map_at (stands common) c.args.lines loop.i no_line no_line (omega arith)) in
-    let turn = join-next (standing common c.args.lines) c.args.board loop.board.phys loop.i _ (omega arith) loop.invariant.2 (c.onto-phy.ensures ∙ ap (λ line. onto line (get_or loop.board.phys loop.i nowhere)) here) in
-    (search rules, loop.invariant.1, turn)
+    let here = c.stands.ensures ∙ sym (map_at (stands common) c.args.lines.now loop.i no_line no_line (search rules)) in
+    (loop.invariant.0, join-next (standing common c.args.lines.now) c.args.board loop.board.phys loop.i _ (omega arith) loop.invariant.1 (c.onto.ensures ∙ ap (λ line. onto line (get_or loop.board.phys loop.i nowhere)) here))
 
 pub returns : goal.returns
 returns c =
     let loop = c.loop-i in
-    join-end (standing c.args.common c.args.lines) c.args.board loop.board loop.i (omega arith) loop.invariant.1 loop.invariant.2
+    join-end (standing c.args.common c.args.lines.now) c.args.board loop.board loop.i (omega arith) loop.invariant.0 loop.invariant.1

@@ -1,20 +1,13 @@
--- Line by line: none of those passed has the address, so it is found among the ones that are left.
-use native.Mathlib.Omega.{arith}
+-- The first line that has the address is found.
+use mathlib.Core.Path.{◌∙◌}
 use lib.Dec.{eqb}
-use borrow.Author.Rules.{rules}
-use borrow.Author.Tests.{eq-eqb, ne_eqb}
-use Rattle.between.proofs.Finding.{found_here, found-later, found_nowhere}
-use Rattle.wire_machine.specs.Lines.{no_line}
+use Rattle.std.proofs.Common.{rules, tests}
+use Rattle.std.proofs.lemmas.Iterator.{YieldsList-from_slice}
+use Rattle.std.proofs.lemmas.Iterator.Search.{position_from_yields_List}
+use Rattle.wire_machine.proofs.Lines.{place-found}
 use Rattle.wire_machine.proofs.line.place_in.Goals as goal
-
-pub returns-then-address-lines : goal.returns-then-address-lines
-returns-then-address-lines c =
-    found_here (λ line. eqb c.args.address line.own.address) c.args.lines no_line (search rules) c.args.count c.args.count (omega arith) c.loop-i.i c.loop-i-test.true c.loop-i.invariant (eq-eqb _ _ c.if-address-lines.true)
-
-pub loop-i-preserved : goal.loop-i-preserved
-loop-i-preserved c =
-    found-later (λ line. eqb c.args.address line.own.address) c.args.lines no_line (search rules) c.args.count c.args.count (omega arith) c.loop-i.i c.loop-i-test.true c.loop-i.invariant (ne_eqb _ _ c.if-address-lines.false)
 
 pub returns : goal.returns
 returns c =
-    found_nowhere (λ line. eqb c.args.address line.own.address) c.args.lines no_line (search rules) c.args.count c.args.count (omega arith) c.loop-i.i c.loop-i-test.false c.loop-i.invariant
+    position_from_yields_List (λ line. eqb c.args.address line.own.address) _ _ _ c.position.ensures.ran (YieldsList-from_slice c.args.lines.now cc) (λ x b q k. search (rules, tests))
+    ∙ place-found c.args.address c.args.lines.now
