@@ -2,18 +2,18 @@
 use Prim.Native.Nat.{ℕ, suc, ◌+◌, ◌*◌, ◌-◌, ◌≤◌, ◌<◌}
 use mathlib.Core.Path.{◌≡◌, refl, sym, ap, ap₂, subst, ◌∙◌}
 use mathlib.Core.Bool.{false}
-use mathlib.Core.List.{List, [], ◌∷◌, map, append-nil}
+use mathlib.Core.List.{List, [], ◌∷◌, map}
 use native.Mathlib.Omega.{arith}
 use native.Mathlib.Numerals.{add-one}
 use borrow.Rule.Slice.PartMut.{put_mid}
-use lib.ListN.{length, get_or, drop, drop_of_length-le}
+use lib.ListN.{length}
 use lib.Seq.{take-length, get_or-take}
 use borrow.Author.Tests.{ltb-false}
 use Rattle.verdict.specs.File.{byte_at}
 use Rattle.verdict.specs.Lists.{All}
 use Rattle.verdict.specs.Output.{join, written}
 use Rattle.verdict.proofs.Elements.{all-places, map-then}
-use Rattle.verdict.proofs.Outputs.{filled, pieced, length-pieced, piece-next, pieced-all}
+use Rattle.verdict.proofs.Outputs.{pieced, length-pieced, piece-next, pieced-all}
 use Rattle.wire.specs.declared.Drive.{Drive}
 use Rattle.wire.specs.Wire.{station_drive, level_of, runs}
 use Rattle.phy.specs.declared.own.Own.{Own}
@@ -27,7 +27,6 @@ use Rattle.board.proofs.Soundness.{Sound, used-place}
 use Rattle.between.specs.Outcome.{phys_of, with_phys}
 use Rattle.between.specs.Events.{happens, at_start}
 use Rattle.between.specs.Happened.{is_due}
-use Rattle.between.proofs.Filling.{tabulate-map}
 use Rattle.between.proofs.EventPlaces.{owns-addresses}
 use Rattle.wire_machine.specs.declared.line.Line.{Line}
 use Rattle.wire_machine.specs.declared.hear.Heard.{Heard}
@@ -39,12 +38,6 @@ use Rattle.wire_machine.proofs.Quiet.{heard_of, heard-level, heard-record}
 use Rattle.wire_machine.proofs.Lockstep.{station_in, drives_in, owns-stay, happens-own, log-by-clock}
 use Rattle.wire_machine.proofs.Stands.{piece, phys, joined, Stands, shown, length-is}
 use Rattle.wire_machine.proofs.Accepts.{Goes}
-
--- where every place that is used has its line, so has each PHY
-pub lines-filled : (board : Board) (old lines : List Line) → board.count ≤ length board.phys → length old ≡ board.count → lines ≡ filled (λ k. line_of (get_or board.phys k nowhere)) old board.count → lines ≡ map line_of (phys_of board)
-lines-filled board old lines few same is =
-    let none : drop board.count old ≡ [] = drop_of_length-le old {i = board.count} (omega arith) in
-    is ∙ rw (none, append-nil) (tabulate-map line_of board.count board.phys nowhere few)
 
 -- a fact on addresses is one on PHYs, and on their lines
 addresses-of-lines : (phys : List Phy) → All (λ address. address < 32) (addresses_of phys) → All (λ line. line.own.address < 32) (map line_of phys)

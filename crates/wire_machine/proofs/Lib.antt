@@ -10,3 +10,4 @@ pub mod Alike
 pub mod Accepts
 pub mod Begins
 pub mod RunLaws
+pub mod Made

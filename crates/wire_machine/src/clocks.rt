@@ -7,8 +7,8 @@ ghost use Rattle.wire_machine.specs.Run.{steps_verdict, running, Ran};
 ghost use Rattle.wire_machine.specs.Clocks.{Clocked};
 
 use crate::common::Common;
-use crate::hear::{Heard, hear, station_drive};
-use crate::line::{Line, join_all, place_in};
+use crate::hear::{hear, station_drive};
+use crate::line::{Line, join_all, lines_of, place_in};
 use between::is_due;
 use board::{Board, Outcome, address_of, check, check_events, code_of};
 use frame::{Frame, Steps};
@@ -31,11 +31,8 @@ fn clock_by_clock(mut board: Board, steps: &[u8], events: &[u8], log: &mut [u8])
     requires { running board steps.now events.now log.old ≡ Done (length steps.now * log_record) }
     ensures { Clocked board steps.now events.now log.old result log.new }
 {
-    let mut places = [Line::from(board.phys[0]); 32];
+    let mut places = lines_of(&board);
     let lines = &mut places[..board.count];
-    for (i, line) in lines.iter_mut().enumerate() {
-        *line = Line::from(board.phys[i]);
-    }
     let mut common = Common::APART;
     let mut next: usize = 0;
     let mut c: usize = 0;
@@ -50,12 +47,7 @@ fn clock_by_clock(mut board: Board, steps: &[u8], events: &[u8], log: &mut [u8])
         if steps.len() <= c {
             return join_all(board, lines, common);
         }
-        let drive = station_drive(steps[c]);
-        let heard = if common.is_silent() {
-            Heard::station(drive)
-        } else {
-            hear(lines, common, drive)
-        };
+        let heard = hear(lines, common, station_drive(steps[c]));
         let at = c * Frame::LOG_RECORD;
         heard.put(&mut log[at..at + Frame::LOG_RECORD]);
         let level = heard.level;

@@ -99,6 +99,9 @@ pub(crate) fn hear(lines: &[Line], common: Common, drive: Drive) -> Heard
     ensures { result ≡ heard_from (heard_station drive) (standing common lines.now) }
 {
     let mut heard = Heard::station(drive);
+    if common.is_silent() {
+        return heard;
+    }
     for line in lines {
         heard = heard.with(line.own.address, common.stands(*line).drives());
     }

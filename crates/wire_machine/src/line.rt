@@ -1,5 +1,5 @@
 // What the wire needs of a PHY at every clock, in a few bytes, so that a clock touches no whole PHY unless one acts.
-ghost use Rattle.std.specs.Prelude.{◌≡◌, ◌≤◌, length};
+ghost use Rattle.std.specs.Prelude.{◌≡◌, ◌≤◌, length, map};
 ghost use Rattle.phy.specs.Fields.{with_line};
 ghost use Rattle.between.specs.Happened.{found_at};
 ghost use Rattle.wire_machine.specs.Common.{standing};
@@ -9,6 +9,7 @@ use crate::common::Common;
 use board::Board;
 use frame::{Frame, Transaction};
 use phy::{Own, Phy};
+use std::array;
 use wire::{Drive, Follower, Header};
 
 #[derive(Clone, Copy)]
@@ -86,6 +87,13 @@ impl Line {
             ..self
         }
     }
+}
+
+// The line of each place.
+pub(crate) fn lines_of(board: &Board) -> [Line; 32]
+    ensures { result ≡ map line_of board.now.phys }
+{
+    array::from_fn(|i| Line::from(board.phys[i]))
 }
 
 // The place of the PHY that has an address, where one of the lines has it.

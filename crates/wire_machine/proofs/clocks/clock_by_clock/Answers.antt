@@ -2,12 +2,9 @@
 use Rattle.std.proofs.Common.{ℕ, ◌+◌, ◌*◌, ◌-◌, ◌≤◌, ◌<◌, ◌≡◌, refl, sym, ap, subst, ◌∙◌, true, false, List, map, length, get_or, set, take, rules, arith}
 use native.Mathlib.Numerals.{add-one}
 use borrow.Rule.Slice.PartMut.{put_mid}
-use lib.ListN.{replicate}
 use lib.Seq.{length-take-le}
 use Rattle.std.specs.Prelude.{Some, unwrap_or}
 use Rattle.verdict.specs.File.{byte_at}
-use Rattle.verdict.specs.Output.{tabulate}
-use Rattle.verdict.proofs.Outputs.{filled, fill}
 use Rattle.wire.specs.declared.Drive.{Drive}
 use Rattle.wire.specs.Wire.{station_drive}
 use Rattle.phy.specs.Sound.{nowhere}
@@ -17,7 +14,7 @@ use Rattle.board.specs.declared.Board.{Board}
 use Rattle.board.specs.Events.{event_address}
 use Rattle.between.specs.Outcome.{phys_of, owns_of}
 use Rattle.between.specs.Happened.{is_due, place_of, found_at}
-use Rattle.between.proofs.Places.{replaced, replace-next, length-replaced}
+use Rattle.between.proofs.Places.{take-map, replaced, replace-next, length-replaced}
 use Rattle.between.proofs.Happenings.{due-now}
 use Rattle.wire_machine.specs.declared.line.Line.{Line}
 use Rattle.wire_machine.specs.declared.hear.Heard.{Heard}
@@ -28,10 +25,10 @@ use Rattle.wire_machine.proofs.Lines.{found-within}
 use Rattle.wire_machine.proofs.Turns.{replaced-all}
 use Rattle.wire_machine.proofs.Accepts.{Goes, goes}
 use Rattle.wire_machine.proofs.Stands.{Shows, turn-acts, turn-follows, phys, Stands, begins, shown, waiting-full, length-is, event-next, clock-next}
-use Rattle.wire_machine.proofs.Begins.{lines-filled, lines-small, level-is, put_is, ends}
-use Rattle.wire_machine.proofs.Alike.{event-place, standing_apart, hears-silent, all-follow, mixed, mixed-at, mixed-set, all-passed, as-many}
+use Rattle.wire_machine.proofs.Begins.{lines-small, level-is, put_is, ends}
+use Rattle.wire_machine.proofs.Alike.{event-place, standing_apart, all-follow, mixed, mixed-at, mixed-set, all-passed, as-many}
 use Rattle.wire_machine.proofs.clocks.clock_by_clock.Goals as goal
-use Rattle.wire_machine.proofs.clocks.clock_by_clock.Goals.{Start, Joined-is_silent, in-Some, in_default, then-is_silent, else-is_silent, then-acts, else-acts}
+use Rattle.wire_machine.proofs.clocks.clock_by_clock.Goals.{Start, in-Some, in_default, then-acts, else-acts}
 
 -- A run that is not refused, after some clocks and events
 module _ {board : Board} {steps events log₀ : List ℕ} (run : Goes board steps events log₀) {log : List ℕ} {now : Board} {next c : ℕ} (common : Common) (lines : List Line) (stands-so : Stands events steps log₀ board log now next (standing common lines) c) where
@@ -63,43 +60,17 @@ module _ {board : Board} {steps events log₀ : List ℕ} (run : Goes board step
 going : (c : Start) → Goes c.args.board c.args.steps.now c.args.events.now c.args.log.now
 going c = goes _ _ _ _ _ (search rules) c.requires
 
--- a line for each PHY
-lined : (n : ℕ) (line : Line) → n ≤ 32 → length (take n (replicate 32 line)) ≡ n
-lined n line few = length-take-le n (replicate 32 line) few
-
--- what is heard in a clock is the station and every line, silent or not
-all-heard : (c : Joined-is_silent) → c.if-is_silent.heard ≡ heard_from (heard_station c.station_drive-drive.result) (standing c.loop-lines.common c.loop-lines.lines)
-all-heard c =
-    elim c.if-is_silent.branch [
-      | then-is_silent w ↦ w.heard-is ∙ w.station-heard.ensures ∙ sym (hears-silent c.loop-lines.common (sym w.if-is_silent.ensures) _ c.loop-lines.lines)
-      | else-is_silent w ↦ w.heard-is ∙ w.hear-heard.ensures
-    ]
-
 pub slice_bounds-lines-end : goal.slice_bounds-lines-end
 slice_bounds-lines-end c =
     let run = going (goal.at.slice_bounds-lines-end c).Start in
-    sym (lined c.args.board.count c.from-places.result run.sound.at_most)
-
-pub loop-i-init : goal.loop-i-init
-unfolding tabulate
-loop-i-init c = refl
-
-pub loop-i-preserved : goal.loop-i-preserved
-loop-i-preserved c =
-    let run = going (goal.at.loop-i-preserved c).Start in
-    fill _ _ c.loop-i.lines c.loop-i.i c.from.result (omega (arith, c.loop-i-test.true)) c.loop-i.invariant c.from.ensures
+    let places : length c.lines_of-places.result ≡ 32 = search rules in
+    sym (length-take-le c.args.board.count c.lines_of-places.result (omega (arith, run.sound.at_most)))
 
 pub loop-lines-init : goal.loop-lines-init
 loop-lines-init c =
-    let run = going (goal.at.loop-lines-init c).Start in
     let board = c.args.board in
-    let loop = c.loop-i in
-    let old = take board.count (replicate 32 c.from-places.result) in
-    let places : length board.phys ≡ 32 = search rules in
-    let long : length old ≡ board.count = lined board.count c.from-places.result run.sound.at_most in
-    let all : loop.i ≡ board.count = omega (arith, long) in
-    rw (standing_apart loop.lines)
-    (begins _ _ _ _ loop.lines (lines-filled board old loop.lines (omega (arith, run.sound.at_most)) long (loop.invariant ∙ ap (filled (λ k. line_of (get_or board.phys k nowhere)) old) all)))
+    rw (standing_apart (take board.count c.lines_of-places.result))
+    (begins _ _ _ _ (take board.count c.lines_of-places.result) (ap (take board.count) c.lines_of-places.ensures ∙ take-map line_of board.count board.phys))
 
 pub loop-lines-preserved-then-is_due : goal.loop-lines-preserved-then-is_due
 loop-lines-preserved-then-is_due c =
@@ -140,19 +111,18 @@ pub loop-lines-preserved-then-moves_alike : goal.loop-lines-preserved-then-moves
 loop-lines-preserved-then-moves_alike c =
     let run = going (goal.at.loop-lines-preserved-then-moves_alike c).Start in
     let loop = c.loop-lines in
-    let all = all-heard (goal.at.loop-lines-preserved-then-moves_alike c).Joined-is_silent in
     let none = sym c.if-is_due.ensures in
-    let level = c.if-is_silent.heard.level in
+    let level = c.hear-heard.result.level in
     let moved = all-follow level loop.common (sym c.if-moves_alike.ensures) loop.lines (shows run loop.common loop.lines loop.invariant none) in
-    rw c.follows-common.ensures (clocked run loop.common loop.lines loop.invariant none c.if-steps-c.false c.if-is_silent.heard _ c.station_drive-drive.ensures all _ c.put.ensures _ _ moved)
+    rw c.follows-common.ensures (clocked run loop.common loop.lines loop.invariant none c.if-steps-c.false c.hear-heard.result _ c.station_drive.ensures c.hear-heard.ensures _ c.put.ensures _ _ moved)
 
-pub loop-i-2-preserved : goal.loop-i-2-preserved
-loop-i-2-preserved c =
+pub loop-i-preserved : goal.loop-i-preserved
+loop-i-preserved c =
     let at = c.loop-lines in
-    let loop = c.loop-i-2 in
+    let loop = c.loop-i in
     let i = loop.i in
-    let level = c.if-is_silent.heard.level in
-    let place : i < length loop.lines = omega (arith, c.loop-i-2-test.true, loop.auto.lines) in
+    let level = c.hear-heard.result.level in
+    let place : i < length loop.lines = omega (arith, c.loop-i-test.true, loop.auto.lines) in
     λ b phys count-is long so.
     let so_far = loop.invariant b phys (count-is ∙ c.if-acts.auto.lines) (long ∙ c.if-acts.auto.lines) so in
     let there : i < b.count = omega arith in
@@ -161,7 +131,7 @@ loop-i-2-preserved c =
     let next : set qs i (clock level (get_or qs i nowhere)) ≡ replaced (clock level) (i + 1) phys = replace-next (clock level) i phys qs nowhere _ (omega arith) refl refl in
     let here = c.stands-stands.ensures ∙ sym (mixed-at (stands at.common) i loop.lines no_line place) in
     elim c.if-acts.branch [
-      | then-acts w ↦ rw (w.board-is, w.lines-is, ← next, ← mixed-set (stands at.common) i loop.lines w.from-then-acts.result) (turn-acts so_far same i there level w.from-then-acts.result w.clock-phy.result (w.clock-phy.ensures ∙ ap (clock level) (w.onto.ensures ∙ ap (λ l. onto l (get_or loop.board.phys i nowhere)) here)) w.from-then-acts.ensures)
+      | then-acts w ↦ rw (w.board-is, w.lines-is, ← next, ← mixed-set (stands at.common) i loop.lines w.from.result) (turn-acts so_far same i there level w.from.result w.clock-phy.result (w.clock-phy.ensures ∙ ap (clock level) (w.onto.ensures ∙ ap (λ l. onto l (get_or loop.board.phys i nowhere)) here)) w.from.ensures)
       | else-acts w ↦ rw (w.board-is, w.lines-is, ← next, ← mixed-set (stands at.common) i loop.lines w.follows.result) (turn-follows so_far same i there level w.follows.result (ap line_acts (sym here) ∙ sym w.if-acts.ensures) (w.follows.ensures ∙ ap (line_follows level) here))
     ]
 
@@ -169,11 +139,10 @@ pub loop-lines-preserved : goal.loop-lines-preserved
 loop-lines-preserved c =
     let run = going (goal.at.loop-lines-preserved c).Start in
     let loop = c.loop-lines in
-    let all = all-heard (goal.at.loop-lines-preserved c).Joined-is_silent in
     let none = sym c.if-is_due.ensures in
-    let turn = c.loop-i-2 in
+    let turn = c.loop-i in
     let b = c.args.board in
-    let level = c.if-is_silent.heard.level in
+    let level = c.hear-heard.result.level in
     let specified = phys c.args.events.now c.args.steps.now c.args.log.now b loop.c in
     let at-start = shows run loop.common loop.lines loop.invariant none in
     let many : length specified ≡ b.count = long run loop.common loop.lines loop.invariant none in
@@ -181,4 +150,4 @@ loop-lines-preserved c =
     let places-all : turn.i ≡ length turn.lines = omega arith in
     let passed = turn.invariant b specified (omega arith) (omega arith) at-start in
     let all-there = subst (Shows b turn.board (mixed (stands loop.common) turn.i turn.lines)) (replaced-all (clock level) turn.i specified (omega arith)) passed in
-    rw c.of-common.ensures (clocked run loop.common loop.lines loop.invariant none c.if-steps-c.false c.if-is_silent.heard _ c.station_drive-drive.ensures all _ c.put.ensures _ _ (all-passed loop.common turn.lines turn.i places-all all-there))
+    rw c.of-common.ensures (clocked run loop.common loop.lines loop.invariant none c.if-steps-c.false c.hear-heard.result _ c.station_drive.ensures c.hear-heard.ensures _ c.put.ensures _ _ (all-passed loop.common turn.lines turn.i places-all all-there))

@@ -2,27 +2,20 @@
 use Prim.Native.Nat.{◌+◌, ◌-◌}
 use mathlib.Core.Path.{◌≡◌}
 use mathlib.Core.List.{List}
-use lib.ListN.{length, get_or}
+use lib.ListN.{length}
 use Rattle.verdict.specs.File.{records}
-use Rattle.verdict.proofs.Outputs.{filled}
 use Rattle.phy.specs.declared.Phy.{Phy}
-use Rattle.phy.specs.Sound.{nowhere}
 use Rattle.phy.specs.Clock.{clock}
 use Rattle.board.specs.declared.Board.{Board}
 use Rattle.board.specs.Events.{event_record}
 use Rattle.between.proofs.Places.{replaced}
-use Rattle.wire_machine.specs.Lines.{line_of}
 use Rattle.wire_machine.specs.Common.{stands, standing}
 use Rattle.wire_machine.proofs.Stands.{Shows, Stands}
 use Rattle.wire_machine.proofs.Alike.{mixed}
 use Rattle.wire_machine.proofs.clocks.clock_by_clock.Given as goal
 
--- the first places have their lines
 abbrev pub invariant-loop-i : goal.invariant-loop-i
-invariant-loop-i l = l.lines ≡ filled (λ k. line_of (get_or l.board.phys k nowhere)) l.initial.lines l.i
-
-abbrev pub invariant-loop-i-2 : goal.invariant-loop-i-2
-invariant-loop-i-2 l =
+invariant-loop-i l =
     (start : Board) (phys : List Phy) → start.count ≡ length l.lines → length phys ≡ length l.lines → Shows start l.initial.board (standing l.common l.initial.lines) phys → Shows start l.board (mixed (stands l.common) l.i l.lines) (replaced (clock l.level) l.i phys)
 
 abbrev pub invariant-loop-lines : goal.invariant-loop-lines
