@@ -24,8 +24,8 @@ fn check_steps(steps: &[u8]) -> Result<usize, Refusal>
 // All clocks of a run that is not refused. A turn is an event that is due, which acts on its PHY where that stands, or else a
 // clock. Where the followers of all PHYs are alike a clock moves the common one; else it goes over the lines. A whole PHY is
 // touched only where it may act or has an event, and an event leaves its line. All loops stay in one function: a board that
-// goes into and out of a call at every clock would take five times as long, and one that goes into a call for its lines would
-// be held once more.
+// goes into and out of a call at every clock would take five times as long. A turn counts one of two things: a `for` over the
+// steps would need the loop over events a second time, behind the last clock.
 #[tactic(auto, using(crate::proofs::Accepts::few_places))]
 fn clock_by_clock(mut board: Board, steps: &[u8], events: &[u8], log: &mut [u8]) -> Board
     requires { running board steps.now events.now log.old ≡ Done (length steps.now * log_record) }
@@ -45,7 +45,8 @@ fn clock_by_clock(mut board: Board, steps: &[u8], events: &[u8], log: &mut [u8])
             continue;
         }
         if steps.len() <= c {
-            return join_all(board, lines, common);
+            join_all(&mut board, lines, common);
+            return board;
         }
         let heard = hear(lines, common, station_drive(steps[c]));
         let at = c * Frame::LOG_RECORD;

@@ -103,13 +103,12 @@ pub(crate) fn place_in(lines: &[Line], address: u8) -> Option<usize>
     lines.iter().position(|line| address == line.own.address)
 }
 
-// The board with its lines put back, as they stand.
-pub(crate) fn join_all(mut board: Board, lines: &[Line], common: Common) -> Board
-    requires { (length lines.now ≡ board.count) × (board.count ≤ 32) }
-    ensures { result ≡ joined_board (standing common lines.now) board }
+// Puts lines back into their board, as they stand.
+pub(crate) fn join_all(board: &mut Board, lines: &[Line], common: Common)
+    requires { (length lines.now ≡ board.old.count) × (board.old.count ≤ 32) }
+    ensures { board.new ≡ joined_board (standing common lines.now) board.old }
 {
     for (i, line) in lines.iter().enumerate() {
         board.phys[i] = common.stands(*line).onto(board.phys[i]);
     }
-    board
 }

@@ -102,7 +102,7 @@ pub returns-then-steps-c : goal.returns-then-steps-c
 returns-then-steps-c c =
     let run = going (goal.at.returns-then-steps-c c).Start in
     let all : c.loop-lines.c ≡ length c.args.steps.now = omega (arith, c.loop-lines.invariant.gone) in
-    ends run c.loop-lines.invariant (sym c.if-is_due.ensures) c.join_all.result all c.join_all.ensures
+    ends run c.loop-lines.invariant (sym c.if-is_due.ensures) c.join_all.new.board all c.join_all.ensures
 
 pub hear-heard-requires : goal.hear-heard-requires
 hear-heard-requires c = lines-small (going (goal.at.hear-heard-requires c).Start) c.loop-lines.invariant (sym c.if-is_due.ensures)
