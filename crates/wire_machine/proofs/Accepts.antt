@@ -5,7 +5,10 @@ use mathlib.Core.List.{List}
 use native.Mathlib.Omega.{arith}
 use lib.ListN.{length}
 use lib.Seq.{length-take-le}
-use Rattle.verdict.specs.Refusal.{Done}
+use Rattle.std.specs.Prelude.{true, Result, Ok, Err}
+use Rattle.std.specs.Result.{is_ok}
+use Rattle.verdict.specs.declared.Refusal.{Refusal}
+use Rattle.verdict.specs.Refusal.{Verdict, Done, said}
 use Rattle.verdict.specs.Refusal.{wrong_step}
 use Rattle.verdict.specs.File.{records}
 use Rattle.verdict.proofs.Checks.{accepted, passed-bytes, done-by}
@@ -69,6 +72,7 @@ writes-all board steps events log m e =
     ∙ room-done log (on-steps.count * 5) (room_fits log (on-steps.count * 5) m on-events.rest)
     ∙ ap (λ n. Done (n * 5)) (counted steps on-steps.count on-steps.passes).0
 
--- where a run is not refused its board uses 32 places at most
-pub few_places : (board : Board) (steps events log : List ℕ) (m : ℕ) → length board.phys ≡ 32 → running board steps events log ≡ Done m → board.count ≤ 32
-few_places board steps events log m long e = (goes board steps events log m long e).sound.at_most
+-- checks that pass say so
+pub passed : {answer : Verdict} (verdict : Result ℕ Refusal) → is_ok verdict ≡ true → said verdict ≡ answer → (m : ℕ) × (answer ≡ Done m)
+passed (Ok m) ok says = (m, sym says)
+passed (Err refusal) ok says = absurd (let z : ◌≡◌ {A = ℕ} 0 1 = cc in omega arith)

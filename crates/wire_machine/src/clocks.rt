@@ -23,19 +23,17 @@ fn check_steps(steps: &[u8]) -> Result<usize, Refusal>
 
 // All clocks of a run that is not refused. A turn is an event that is due, which acts on its PHY where that stands, or else a
 // clock. Where the followers of all PHYs are alike a clock moves the common one; else it goes over the lines. A whole PHY is
-// touched only where it may act or has an event, and an event leaves its line. All loops stay in one function: a board that
-// goes into and out of a call at every clock would take five times as long. A turn counts one of two things: a `for` over the
-// steps would need the loop over events a second time, behind the last clock.
-#[tactic(auto, using(crate::proofs::Accepts::few_places))]
-fn clock_by_clock(mut board: Board, steps: &[u8], events: &[u8], log: &mut [u8]) -> Board
-    requires { running board steps.now events.now log.old ≡ Done (length steps.now * log_record) }
-    ensures { Clocked board steps.now events.now log.old result log.new }
+// touched only where it may act or has an event, and an event leaves its line.
+fn clock_by_clock(board: &mut Board, steps: &[u8], events: &[u8], log: &mut [u8])
+    requires { running board.old steps.now events.now log.old ≡ Done (length steps.now * log_record) }
+    ensures { Clocked board.old steps.now events.now log.old board.new log.new }
 {
-    let mut places = lines_of(&board);
+    let mut places = lines_of(board);
     let lines = &mut places[..board.count];
     let mut common = Common::APART;
     let mut next: usize = 0;
     let mut c: usize = 0;
+    // Not a `for` over the steps: the loop over events would then stand a second time, behind the last clock.
     loop {
         if is_due(events, next, c) {
             if let Some(i) = place_in(lines, address_of(events, next)) {
@@ -45,8 +43,8 @@ fn clock_by_clock(mut board: Board, steps: &[u8], events: &[u8], log: &mut [u8])
             continue;
         }
         if steps.len() <= c {
-            join_all(&mut board, lines, common);
-            return board;
+            join_all(board, lines, common);
+            return;
         }
         let heard = hear(lines, common, station_drive(steps[c]));
         let at = c * Frame::LOG_RECORD;
@@ -86,13 +84,12 @@ fn check_run(board: Board, steps: &[u8], events: &[u8], room: usize) -> Result<u
 }
 
 // Runs the steps on a board, with the events between clocks, and writes a record of each clock to the log's start.
-pub fn run(board: Board, steps: &[u8], events: &[u8], log: &mut [u8]) -> Outcome
+pub fn run(mut board: Board, steps: &[u8], events: &[u8], log: &mut [u8]) -> Outcome
     ensures { Ran board steps.now events.now log.old (told result) log.new }
 {
     let verdict = check_run(board, steps, events, log.len());
-    let Ok(_) = verdict else {
-        return Outcome::of(verdict, board);
-    };
-    let after = clock_by_clock(board, steps, events, log);
-    Outcome::of(verdict, after)
+    if verdict.is_ok() {
+        clock_by_clock(&mut board, steps, events, log);
+    }
+    Outcome { verdict, board }
 }

@@ -2,6 +2,7 @@
 use Rattle.std.proofs.Common.{ℕ, ◌+◌, ◌*◌, ◌-◌, ◌≤◌, ◌<◌, ◌≡◌, refl, sym, ap, subst, ◌∙◌, true, false, List, map, length, get_or, set, take, rules, arith}
 use native.Mathlib.Numerals.{add-one}
 use borrow.Rule.Slice.PartMut.{put_mid}
+use lib.ListN.{length-map}
 use lib.Seq.{length-take-le}
 use Rattle.std.specs.Prelude.{Some, unwrap_or}
 use Rattle.verdict.specs.File.{byte_at}
@@ -28,7 +29,7 @@ use Rattle.wire_machine.proofs.Stands.{Shows, turn-acts, turn-follows, phys, Sta
 use Rattle.wire_machine.proofs.Begins.{lines-small, level-is, put_is, ends}
 use Rattle.wire_machine.proofs.Alike.{event-place, standing_apart, all-follow, mixed, mixed-at, mixed-set, all-passed, as-many}
 use Rattle.wire_machine.proofs.clocks.clock_by_clock.Goals as goal
-use Rattle.wire_machine.proofs.clocks.clock_by_clock.Goals.{Start, in-Some, in_default, then-acts, else-acts}
+use Rattle.wire_machine.proofs.clocks.clock_by_clock.Goals.{After-lines_of-places, in-Some, in_default, then-acts, else-acts}
 
 -- A run that is not refused, after some clocks and events
 module _ {board : Board} {steps events log₀ : List ℕ} (run : Goes board steps events log₀) {log : List ℕ} {now : Board} {next c : ℕ} (common : Common) (lines : List Line) (stands-so : Stands events steps log₀ board log now next (standing common lines) c) where
@@ -57,28 +58,36 @@ module _ {board : Board} {steps events log₀ : List ℕ} (run : Goes board step
         (clock-next events steps log₀ board run.full run.rising stands-so none more _ heard.level (put_is run stands-so none drive heard step all part put) (level-is run stands-so none drive heard step all) now' lines' sampled)
 
 -- the run is not refused, so it goes on
-going : (c : Start) → Goes c.args.board c.args.steps.now c.args.events.now c.args.log.now
-going c = goes _ _ _ _ _ (search rules) c.requires
+going : (c : After-lines_of-places) → Goes c.args.board.now c.args.steps.now c.args.events.now c.args.log.now
+going c =
+    let places : length c.lines_of-places.result ≡ 32 = search rules in
+    goes _ _ _ _ _ (sym (length-map c.args.board.now.phys line_of) ∙ ap length (sym c.lines_of-places.ensures) ∙ places) c.requires
+
+-- there are 32 places, and the board uses no more
+fits : (c : After-lines_of-places) → c.args.board.now.count ≤ length c.lines_of-places.result
+fits c =
+    let places : length c.lines_of-places.result ≡ 32 = search rules in
+    omega (arith, (going c).sound.at_most)
+
+pub slice_bounds-places-end : goal.slice_bounds-places-end
+slice_bounds-places-end c = fits (goal.at.slice_bounds-places-end c).After-lines_of-places
 
 pub slice_bounds-lines-end : goal.slice_bounds-lines-end
-slice_bounds-lines-end c =
-    let run = going (goal.at.slice_bounds-lines-end c).Start in
-    let places : length c.lines_of-places.result ≡ 32 = search rules in
-    sym (length-take-le c.args.board.count c.lines_of-places.result (omega (arith, run.sound.at_most)))
+slice_bounds-lines-end c = sym (length-take-le c.args.board.now.count c.lines_of-places.result (fits (goal.at.slice_bounds-lines-end c).After-lines_of-places))
 
 pub loop-lines-init : goal.loop-lines-init
 loop-lines-init c =
-    let board = c.args.board in
+    let board = c.args.board.now in
     rw (standing_apart (take board.count c.lines_of-places.result))
     (begins _ _ _ _ (take board.count c.lines_of-places.result) (ap (take board.count) c.lines_of-places.ensures ∙ take-map line_of board.count board.phys))
 
 pub loop-lines-preserved-then-is_due : goal.loop-lines-preserved-then-is_due
 loop-lines-preserved-then-is_due c =
-    let run = going (goal.at.loop-lines-preserved-then-is_due c).Start in
+    let run = going (goal.at.loop-lines-preserved-then-is_due c).After-lines_of-places in
     let loop = c.loop-lines in
     let due = sym c.if-is_due.ensures in
     let place = place_in loop.lines (event_address c.args.events.now loop.next) in
-    let there : place < c.args.board.count = on-board run loop.common loop.lines loop.invariant due in
+    let there : place < c.args.board.now.count = on-board run loop.common loop.lines loop.invariant due in
     let many = as-many loop.common loop.lines loop.invariant.shows in
     let is : c.place_in.result ≡ found_at place loop.lines = c.place_in.ensures ∙ ap (λ a. found_at (place_in loop.lines a) loop.lines) c.address_of.ensures in
     let found : c.place_in.result ≡ Some place = found-within place loop.lines c.place_in.result is (omega (arith, waiting-full _ _ _ _ run.full run.rising loop.invariant)) in
@@ -93,23 +102,23 @@ loop-lines-preserved-then-is_due c =
 
 pub join_all-requires : goal.join_all-requires
 join_all-requires c =
-    let run = going (goal.at.join_all-requires c).Start in
+    let run = going (goal.at.join_all-requires c).After-lines_of-places in
     let loop = c.loop-lines in
     let none = sym c.if-is_due.ensures in
     (as-many loop.common loop.lines (shows run loop.common loop.lines loop.invariant none) ∙ long run loop.common loop.lines loop.invariant none ∙ sym loop.invariant.shows.counted, omega (arith, loop.invariant.shows.counted, run.sound.at_most))
 
 pub returns-then-steps-c : goal.returns-then-steps-c
 returns-then-steps-c c =
-    let run = going (goal.at.returns-then-steps-c c).Start in
+    let run = going (goal.at.returns-then-steps-c c).After-lines_of-places in
     let all : c.loop-lines.c ≡ length c.args.steps.now = omega (arith, c.loop-lines.invariant.gone) in
     ends run c.loop-lines.invariant (sym c.if-is_due.ensures) c.join_all.new.board all c.join_all.ensures
 
 pub hear-heard-requires : goal.hear-heard-requires
-hear-heard-requires c = lines-small (going (goal.at.hear-heard-requires c).Start) c.loop-lines.invariant (sym c.if-is_due.ensures)
+hear-heard-requires c = lines-small (going (goal.at.hear-heard-requires c).After-lines_of-places) c.loop-lines.invariant (sym c.if-is_due.ensures)
 
 pub loop-lines-preserved-then-moves_alike : goal.loop-lines-preserved-then-moves_alike
 loop-lines-preserved-then-moves_alike c =
-    let run = going (goal.at.loop-lines-preserved-then-moves_alike c).Start in
+    let run = going (goal.at.loop-lines-preserved-then-moves_alike c).After-lines_of-places in
     let loop = c.loop-lines in
     let none = sym c.if-is_due.ensures in
     let level = c.hear-heard.result.level in
@@ -137,11 +146,11 @@ loop-i-preserved c =
 
 pub loop-lines-preserved : goal.loop-lines-preserved
 loop-lines-preserved c =
-    let run = going (goal.at.loop-lines-preserved c).Start in
+    let run = going (goal.at.loop-lines-preserved c).After-lines_of-places in
     let loop = c.loop-lines in
     let none = sym c.if-is_due.ensures in
     let turn = c.loop-i in
-    let b = c.args.board in
+    let b = c.args.board.now in
     let level = c.hear-heard.result.level in
     let specified = phys c.args.events.now c.args.steps.now c.args.log.now b loop.c in
     let at-start = shows run loop.common loop.lines loop.invariant none in

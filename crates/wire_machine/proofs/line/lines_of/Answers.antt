@@ -8,6 +8,5 @@ use Rattle.wire_machine.proofs.line.lines_of.Goals as goal
 pub returns : goal.returns
 returns c =
     let phys = c.args.board.now.phys in
-    let made = c.from_fn.ensures.items in
     let places : length phys ≡ 32 = search rules in
-    made-of line_of phys c.from_fn.result nowhere no_line (made.long ∙ sym places) (λ i l. made_at c.from_fn.result (λ i. line_of (get_or phys i nowhere)) (λ i y q k. search (rules, tests)) made i no_line (omega arith))
+    made-of line_of phys c.from_fn.result nowhere no_line (c.from_fn.ensures.items.long ∙ sym places) (λ i l. made_at c.from_fn.result (λ i. line_of (get_or phys i nowhere)) (λ i y q k. search (rules, tests)) c.from_fn.ensures.items i no_line (omega arith))
