@@ -28,7 +28,6 @@ use Rattle.board.specs.declared.Board.{Board}
 use Rattle.board.specs.Check.{checked}
 use Rattle.board.specs.Events.{events_verdict}
 use Rattle.board.specs.Outcome.{Told}
-use Rattle.between.specs.Outcome.{outcome_of}
 use Rattle.wire_machine.specs.Run.{steps_verdict, running, log_of_run, Ran}
 use Rattle.verdict.proofs.Outputs.{room-done}
 use Rattle.plain_machine.specs.Plain.{planning}
@@ -158,7 +157,7 @@ module _ (board : Board) (list events : List ℕ) where
       on_List.passes ∙ (done-by (events_verdict board events (on_List.count * clocks)) _ on_List.rest).rest
 
   -- a run of the steps of an accepted list is that list sent
-  pub sent-by-run : {steps out out' : List ℕ} {n : ℕ} {r : Outcome} → list_verdict list ≡ Done n → steps ≡ translation list → Ran board steps events out r out' → Sent board list events out r out'
+  pub sent-by-run : {steps out out' : List ℕ} {n : ℕ} {r : Told} → list_verdict list ≡ Done n → steps ≡ translation list → Ran board steps events out r out' → Sent board list events out r out'
   sent-by-run {steps} {out} {out'} {n} {r} accepted translated ran =
       let same : running board (translation list) events out ≡ sending board list events out = rw (steps-accepted list n accepted, accepted) (simp one_by_one) in
       rw same at (rw translated at ran)
@@ -171,7 +170,7 @@ pub record Logged (before : Board) (list events out : List ℕ) (m : ℕ) (after
   pub board : after ≡ board_after_exchange before list events
 
 module _ (before : Board) (list events : List ℕ) where
-  module _ {room out : List ℕ} {r : Outcome} (long : length room ≡ most_steps * log_record) (sent : Sent before list events room r out) where
+  module _ {room out : List ℕ} {r : Told} (long : length room ≡ most_steps * log_record) (sent : Sent before list events room r out) where
     room-for-all : sending before list events room ≡ and_then (send_verdict before list events) (λ n. Done (n * clocks * log_record))
     room-for-all = go (send_verdict before list events) refl
       where
@@ -205,8 +204,8 @@ module _ (before : Board) (list events : List ℕ) where
     written-planned : Writes (planning before list events out) (join (map answer_bytes (answers_of_exchange before list events))) out answer out'
     written-planned = record { verdict = sym answer-planned; output = decoded.output ∙ rw (room-left, held) }
 
-    pub exchanged : {m : ℕ} {after : Board} → answer ≡ Done m → after ≡ board_after_exchange before list events → Exchanged before list events out (outcome_of answer after) out'
+    pub exchanged : {m : ℕ} {after : Board} → answer ≡ Done m → after ≡ board_after_exchange before list events → Exchanged before list events out (record { verdict = answer; board = after }) out'
     exchanged e left = record { writes = written-planned; board = rw (answer-planned, e) left }
 
-    pub not-decoded : {c k : ℕ} → answer ≡ Refused c k → Exchanged before list events out (outcome_of answer before) out'
+    pub not-decoded : {c k : ℕ} → answer ≡ Refused c k → Exchanged before list events out (record { verdict = answer; board = before }) out'
     not-decoded e = record { writes = written-planned; board = rw (answer-planned, e) }

@@ -26,7 +26,7 @@ use Rattle.board.specs.Typed.{TypedBoard}
 use Rattle.board.proofs.LoadSound.{load-sound}
 use Rattle.board.proofs.LoadTyped.{load_typed}
 use Rattle.board.specs.Outcome.{Told}
-use Rattle.between.specs.Outcome.{outcome_of, phys_of, with_phys, handed_back}
+use Rattle.between.specs.Outcome.{phys_of, with_phys, handed_back}
 use Rattle.wire_machine.specs.Run.{phys_after_run}
 use Rattle.plain_machine.specs.Plain.{planning, answers_of_plain, phys_after_plain, board_after_plain, Planned}
 use Rattle.between.proofs.Laws.{hands-back-unique}
@@ -37,11 +37,11 @@ use Rattle.agreement.specs.Exchange.{board_after_exchange, Sent, answers_of_exch
 use Rattle.agreement.proofs.Demand3.{demand-3}
 
 -- two results that meet the promise of `send` are equal, as are the logs
-pub send-unique : (board : Board) (list events out : List ℕ) {r s : Outcome} {out₁ out₂ : List ℕ} → Sent board list events out r out₁ → Sent board list events out s out₂ → (r ≡ s) × (out₁ ≡ out₂)
+pub send-unique : (board : Board) (list events out : List ℕ) {r s : Told} {out₁ out₂ : List ℕ} → Sent board list events out r out₁ → Sent board list events out s out₂ → (r ≡ s) × (out₁ ≡ out₂)
 send-unique board list events out p q = hands-back-unique p q
 
 -- two results that meet the promise of `exchange` are equal, as are the answers
-pub exchange-unique : (board : Board) (list events out : List ℕ) {r s : Outcome} {out₁ out₂ : List ℕ} → Exchanged board list events out r out₁ → Exchanged board list events out s out₂ → (r ≡ s) × (out₁ ≡ out₂)
+pub exchange-unique : (board : Board) (list events out : List ℕ) {r s : Told} {out₁ out₂ : List ℕ} → Exchanged board list events out r out₁ → Exchanged board list events out s out₂ → (r ≡ s) × (out₁ ≡ out₂)
 exchange-unique board list events out p q = hands-back-unique p q
 
 -- a field that two rows of PHYs have alike, they have alike in their places
@@ -91,7 +91,7 @@ module _ (board : Board) (list events out : List ℕ) (typed : TypedBoard board)
 
   -- what the two promise, whatever the answer
   same_after : (v : Verdict) → planning board list events out ≡ v →
-      SameAsPlain (outcome_of v (handed_back v (board_after_exchange board list events) board)) (outcome_of v (handed_back v (board_after_plain board list events) board))
+      SameAsPlain (record { verdict = v; board = handed_back v (board_after_exchange board list events) board }) (record { verdict = v; board = handed_back v (board_after_plain board list events) board })
       (output_after v (join (map answer_bytes (answers_of_exchange board list events))) out) (output_after v (join (map answer_bytes (answers_of_plain board list events))) out)
   same_after (Done n) e =
       let holds = demanded e in
@@ -107,7 +107,7 @@ module _ (board : Board) (list events out : List ℕ) (typed : TypedBoard board)
   same_after (Refused c k) e = record { verdict = refl; output = refl; count = refl; registers = refl; links = refl }
 
   -- where every PHY hunts, `exchange` answers as `plain` does
-  pub exchange-agrees : {r s : Outcome} {out₁ out₂ : List ℕ} → Exchanged board list events out r out₁ → Planned board list events out s out₂ → SameAsPlain r s out₁ out₂
+  pub exchange-agrees : {r s : Told} {out₁ out₂ : List ℕ} → Exchanged board list events out r out₁ → Planned board list events out s out₂ → SameAsPlain r s out₁ out₂
   exchange-agrees p q =
       let same = same_after (planning board list events out) refl in
       record {
@@ -119,7 +119,7 @@ module _ (board : Board) (list events out : List ℕ) (typed : TypedBoard board)
       }
 
   -- and every PHY hunts again
-  pub exchange-hunts : {r : Outcome} {out' : List ℕ} → Exchanged board list events out r out' → All Hunts (phys_of r.board)
+  pub exchange-hunts : {r : Told} {out' : List ℕ} → Exchanged board list events out r out' → All Hunts (phys_of r.board)
   exchange-hunts p = subst (λ b. All Hunts (phys_of b)) (sym p.board) (go (planning board list events out) refl)
     where
       go : (v : Verdict) → planning board list events out ≡ v → All Hunts (phys_of (handed_back v (board_after_exchange board list events) board))
@@ -131,7 +131,7 @@ module _ (board : Board) (list events out : List ℕ) (typed : TypedBoard board)
           subst (All Hunts) (sym (phys-of-with board after same)) (all-hunt after (subst (All HuntsIn) (sym ends) (ends-hunt (transactions list) board hunt)))
 
 -- "Every call keeps it": a list sent is a run of translated steps or a refusal, and so is an exchange
-module _ {n : ℕ} {board : Board} (list events : List ℕ) {out : List ℕ} {r : Outcome} {out' : List ℕ} where
+module _ {n : ℕ} {board : Board} (list events : List ℕ) {out : List ℕ} {r : Told} {out' : List ℕ} where
   pub send-sound : SoundBoard n board → Sent board list events out r out' → SoundBoard n r.board
   send-sound is sent = handed-back-sound is (run_sound is events (translation list)) sent
 
@@ -161,5 +161,5 @@ pub loaded-ready : (file : List ℕ) → ((i : ℕ) → byte_at file i < 256) �
 loaded-ready file bytes = record { sound = record { typed = load_typed file bytes; passes = load-sound file }; hunt = loaded-hunts file }
 
 module _ (file list events out : List ℕ) (file-bytes : (i : ℕ) → byte_at file i < 256) (bytes : (i : ℕ) → byte_at list i < 256) where
-  pub loaded-agrees : {r s : Outcome} {out₁ out₂ : List ℕ} → Exchanged (loaded file).board list events out r out₁ → Planned (loaded file).board list events out s out₂ → SameAsPlain r s out₁ out₂
+  pub loaded-agrees : {r s : Told} {out₁ out₂ : List ℕ} → Exchanged (loaded file).board list events out r out₁ → Planned (loaded file).board list events out s out₂ → SameAsPlain r s out₁ out₂
   loaded-agrees p q = exchange-agrees (loaded file).board list events out (load_typed file file-bytes) bytes (loaded-hunts file) p q

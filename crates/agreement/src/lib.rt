@@ -12,7 +12,7 @@ use verdict::zeroed;
 use wire_machine::run;
 
 // Room for the log of the longest list.
-const LOG: usize = Steps::MOST * Frame::LOG_RECORD;
+pub const LOG: usize = Steps::MOST * Frame::LOG_RECORD;
 
 // Sends a list over the wire: translates it, runs its steps with the events between clocks, and writes the log of the run to
 // the start of `log`. The board comes back as the run leaves it.

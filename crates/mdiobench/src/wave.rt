@@ -5,15 +5,11 @@ ghost use Rattle.mdiobench.specs.Tray.{Passed};
 ghost use Rattle.mdiobench.specs.Drawing.{Drawn};
 
 use crate::report;
-use agreement::send;
+use agreement::{LOG, send};
 use board::Board;
-use frame::{Frame, Steps};
 use std::io;
 use verdict::{Refusal, zeroed};
 use waveform::{Waveform, write_vcd};
-
-// Room for the log of the longest list.
-const LOG: usize = Steps::MOST * Frame::LOG_RECORD;
 
 // Writes the waveform of a list's run to the start of `text`.
 fn draw(board: Board, list: &[u8], events: &[u8], text: &mut [u8]) -> Result<usize, Refusal>
