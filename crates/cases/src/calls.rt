@@ -11,189 +11,139 @@
 //     Events N C        check the events' first N bytes on the board, where the last clock is C
 //     Run S G N         the first S steps and the events' first N bytes, into the log's first G
 //     Plain L A N       the list's first L bytes and the events' first N, into the first A of the answers
-use crate::buffers::{Answers, Events, File, List, Log, Steps, Text};
+//
+// Where an output has fewer bytes, nothing is called.
+use crate::desk::Desk;
 use crate::script::Word;
-use crate::text;
-use board::{Board, Outcome};
+use board::{check, check_events, load};
+use frame::{decode, log_part, translate};
+use listener::listen;
+use plain_machine::plain;
 use std::io;
+use verdict::Refusal;
+use waveform::{read_vcd, write_vcd};
+
+#[derive(Clone, Copy)]
+pub(crate) enum Call {
+    Translate,
+    Decode,
+    Back,
+    Measure,
+    Vcd,
+    Interpret,
+    Load,
+    Check,
+    Events,
+    Run,
+    Plain,
+}
+
+impl Call {
+    pub(crate) fn of(letter: u8) -> Option<Call> {
+        match letter {
+            b'T' => Some(Call::Translate),
+            b'D' => Some(Call::Decode),
+            b'B' => Some(Call::Back),
+            b'M' => Some(Call::Measure),
+            b'V' => Some(Call::Vcd),
+            b'I' => Some(Call::Interpret),
+            b'L' => Some(Call::Load),
+            b'C' => Some(Call::Check),
+            b'E' => Some(Call::Events),
+            b'R' => Some(Call::Run),
+            b'P' => Some(Call::Plain),
+            _ => None,
+        }
+    }
+}
 
 // The first bytes of a buffer; all of it where it has fewer.
 fn first(buffer: &[u8], n: u32) -> &[u8] {
-    let end = n as usize;
-    if end <= buffer.len() {
-        return &buffer[..end];
-    }
-    buffer
+    buffer.get(..n as usize).unwrap_or(buffer)
 }
 
-fn translate(rt: &impl Print, word: Word, list: &[u8], steps: &mut [u8]) -> io::Result<()> {
-    let room = word.b as usize;
-    if room <= steps.len() {
-        let verdict = frame::translate(first(list, word.a), &mut steps[..room]);
-        text::answer(rt, verdict)?;
+// An answer: `done N` or `refused N at INDEX`.
+fn told(rt: &impl Print, answer: Result<usize, Refusal>) -> io::Result<()> {
+    match answer {
+        Ok(n) => print!(rt; " done {n}"),
+        Err(refusal) => print!(rt; " {refusal}"),
     }
-    Ok(())
 }
 
-fn decode(
+// What a call answers that writes to an output's first bytes.
+fn into<F: FnOnce(&mut [u8]) -> Result<usize, Refusal>>(
     rt: &impl Print,
-    word: Word,
-    list: &[u8],
-    log: &[u8],
-    answers: &mut [u8],
-) -> io::Result<()> {
-    let room = word.c as usize;
-    if room <= answers.len() {
-        let verdict = frame::decode(
-            first(list, word.a),
-            first(log, word.b),
-            &mut answers[..room],
-        );
-        text::answer(rt, verdict)?;
+    output: &mut [u8],
+    n: u32,
+    call: F,
+) -> io::Result<()>
+    requires { F.IsAlwaysCallable call }
+{
+    match output.get_mut(..n as usize) {
+        Some(part) => told(rt, call(part)),
+        None => Ok(()),
     }
-    Ok(())
 }
 
-// A capture has a byte for each clock as the steps do, so it is made in their buffer.
-fn listen(rt: &impl Print, word: Word, levels: &[u8], answers: &mut [u8]) -> io::Result<()> {
-    let room = word.b as usize;
-    if room <= answers.len() {
-        let verdict = listener::listen(first(levels, word.a), &mut answers[..room]);
-        text::answer(rt, verdict)?;
-    }
-    Ok(())
-}
-
-fn vcd(rt: &impl Print, word: Word, log: &[u8], output: &mut [u8]) -> io::Result<()> {
-    let room = word.b as usize;
-    if room <= output.len() {
-        let verdict = waveform::write_vcd(first(log, word.a), &mut output[..room]);
-        text::answer(rt, verdict)?;
-    }
-    Ok(())
-}
-
-// A text read back gives a byte for each clock as the steps have, so it goes to their buffer.
-fn interpret(rt: &impl Print, word: Word, text: &[u8], flags: &mut [u8]) -> io::Result<()> {
-    let room = word.b as usize;
-    if room <= flags.len() {
-        let verdict = waveform::read_vcd(first(text, word.a), &mut flags[..room]);
-        text::answer(rt, verdict)?;
-    }
-    Ok(())
-}
-
-pub(crate) fn frames(
-    rt: &impl Print,
-    word: Word,
-    list: &List,
-    steps: &mut Steps,
-    log: &Log,
-    answers: &mut Answers,
-    text: &mut Text,
-) -> io::Result<()> {
-    let letter = word.letter;
-    match letter {
-        b'T' => translate(rt, word, list, steps),
-        b'D' => decode(rt, word, list, log, answers),
-        b'B' => listen(rt, word, steps, answers),
-        b'V' => vcd(rt, word, log, text),
-        b'I' => interpret(rt, word, text, steps),
-        b'M' => {
-            let part = frame::log_part(first(log, word.a), word.b as usize);
-            text::number(rt, part.len())
+impl Desk {
+    pub(crate) fn call(&mut self, rt: &impl Print, call: Call, word: Word) -> io::Result<()> {
+        let Word { a, b, c, .. } = word;
+        let list = first(&self.list, a);
+        match call {
+            Call::Translate => into(rt, &mut self.steps, b, |steps| translate(list, steps)),
+            Call::Decode => {
+                let log = first(&self.log, b);
+                into(
+                    rt,
+                    &mut self.answers,
+                    c,
+                    |answers| decode(list, log, answers),
+                )
+            }
+            // A capture has a byte for each clock as the steps do, so it is made in their buffer.
+            Call::Back => {
+                let levels = first(&self.steps, a);
+                into(rt, &mut self.answers, b, |answers| listen(levels, answers))
+            }
+            Call::Measure => print!(rt; " {}", log_part(first(&self.log, a), b as usize).len()),
+            Call::Vcd => {
+                let log = first(&self.log, a);
+                into(rt, &mut self.text, b, |text| write_vcd(log, text))
+            }
+            // A text read back gives a byte for each clock as the steps have, so it goes to their buffer.
+            Call::Interpret => {
+                let text = first(&self.text, a);
+                into(rt, &mut self.steps, b, |flags| read_vcd(text, flags))
+            }
+            Call::Load => told(rt, load(first(&self.file, a)).verdict),
+            Call::Check => told(rt, check(self.board)),
+            Call::Events => told(
+                rt,
+                check_events(self.board, first(&self.events, a), b as usize),
+            ),
+            Call::Run => self.run(rt, word),
+            Call::Plain => self.plain(rt, word),
         }
-        _ => Ok(()),
     }
-}
 
-pub(crate) fn boards(
-    rt: &impl Print,
-    board: Board,
-    word: Word,
-    file: &File,
-    events: &Events,
-) -> io::Result<()> {
-    let letter = word.letter;
-    match letter {
-        b'L' => {
-            let loaded = board::load(first(file, word.a));
-            let verdict = loaded.verdict;
-            text::answer(rt, verdict)
-        }
-        b'C' => text::answer(rt, board::check(board)),
-        b'E' => {
-            let verdict = board::check_events(board, first(events, word.a), word.b as usize);
-            text::answer(rt, verdict)
-        }
-        _ => Ok(()),
+    // The board that a machine hands back stays on the desk.
+    fn run(&mut self, rt: &impl Print, word: Word) -> io::Result<()> {
+        let events = first(&self.events, word.c);
+        let Some(log) = self.log.get_mut(..word.b as usize) else {
+            return Ok(());
+        };
+        let outcome = wire_machine::run(self.board, first(&self.steps, word.a), events, log);
+        self.board = outcome.board;
+        told(rt, outcome.verdict)
     }
-}
 
-// What a machine answers is printed, and its board goes on.
-fn told(rt: &impl Print, outcome: Outcome) -> io::Result<Board> {
-    let verdict = outcome.verdict;
-    text::answer(rt, verdict)?;
-    Ok(outcome.board)
-}
-
-fn run(
-    rt: &impl Print,
-    board: Board,
-    word: Word,
-    steps: &[u8],
-    events: &[u8],
-    log: &mut [u8],
-) -> io::Result<Board> {
-    let room = word.b as usize;
-    if room <= log.len() {
-        let outcome = wire_machine::run(
-            board,
-            first(steps, word.a),
-            first(events, word.c),
-            &mut log[..room],
-        );
-        return told(rt, outcome);
-    }
-    Ok(board)
-}
-
-fn plain(
-    rt: &impl Print,
-    board: Board,
-    word: Word,
-    list: &[u8],
-    events: &[u8],
-    answers: &mut [u8],
-) -> io::Result<Board> {
-    let room = word.b as usize;
-    if room <= answers.len() {
-        let outcome = plain_machine::plain(
-            board,
-            first(list, word.a),
-            first(events, word.c),
-            &mut answers[..room],
-        );
-        return told(rt, outcome);
-    }
-    Ok(board)
-}
-
-// The board that a machine hands back; of any other word the board itself.
-pub(crate) fn machines(
-    rt: &impl Print,
-    board: Board,
-    word: Word,
-    list: &List,
-    steps: &Steps,
-    events: &Events,
-    log: &mut Log,
-    answers: &mut Answers,
-) -> io::Result<Board> {
-    let letter = word.letter;
-    match letter {
-        b'R' => run(rt, board, word, steps, events, log),
-        b'P' => plain(rt, board, word, list, events, answers),
-        _ => Ok(board),
+    fn plain(&mut self, rt: &impl Print, word: Word) -> io::Result<()> {
+        let events = first(&self.events, word.c);
+        let Some(answers) = self.answers.get_mut(..word.b as usize) else {
+            return Ok(());
+        };
+        let outcome = plain(self.board, first(&self.list, word.a), events, answers);
+        self.board = outcome.board;
+        told(rt, outcome.verdict)
     }
 }

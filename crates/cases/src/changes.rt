@@ -11,72 +11,83 @@
 //     hunting P N         it hunts with N ones
 //     within P N V        it is inside a frame with N bits seen, V
 //     captured P V        its captured word
-use crate::buffers::File;
+use crate::desk::Desk;
 use crate::script::Word;
 use board::Board;
 use phy::Phy;
 use wire::Follower;
 
-// The board of the board file's first n records.
-fn loaded(file: &[u8], n: u32) -> Board {
-    let end = n as usize * Board::RECORD;
-    if end <= file.len() {
-        let loaded = board::load(&file[..end]);
-        return loaded.board;
-    }
-    none()
+#[derive(Clone, Copy)]
+pub(crate) enum Change {
+    Phys,
+    Number,
+    Address,
+    Implemented,
+    Default,
+    Mask,
+    Register,
+    Up,
+    Hunting,
+    Within,
+    Captured,
 }
 
-pub(crate) fn none() -> Board {
-    let loaded = board::load(b"");
-    loaded.board
+impl Change {
+    pub(crate) fn of(letter: u8) -> Option<Change> {
+        match letter {
+            b'p' => Some(Change::Phys),
+            b'n' => Some(Change::Number),
+            b'a' => Some(Change::Address),
+            b'i' => Some(Change::Implemented),
+            b'd' => Some(Change::Default),
+            b'm' => Some(Change::Mask),
+            b'r' => Some(Change::Register),
+            b'u' => Some(Change::Up),
+            b'h' => Some(Change::Hunting),
+            b'w' => Some(Change::Within),
+            b'c' => Some(Change::Captured),
+            _ => None,
+        }
+    }
+}
+
+// The board of the board file's first n records; where it has not so many, that of none.
+fn loaded(file: &[u8], n: u32) -> Board {
+    let records = file.get(..n as usize * Board::RECORD);
+    board::load(records.unwrap_or(b"")).board
 }
 
 // The PHY with a field or a word changed.
-fn refielded(mut phy: Phy, word: Word) -> Phy {
-    let letter = word.letter;
+fn changed(mut phy: Phy, change: Change, word: Word) -> Phy {
     let r = (word.b % 32) as usize;
     let value = (word.c % 0x1_0000) as u16;
-    match letter {
-        b'a' => phy.own.address = (word.b % 256) as u8,
-        b'i' => phy.own.implemented = word.b,
-        b'u' => phy.link = word.b == 1,
-        b'c' => phy.captured = (word.b % 0x1_0000) as u16,
-        b'd' => phy.defaults[r] = value,
-        b'm' => phy.masks[r] = value,
-        b'r' => phy.registers[r] = value,
-        _ => {}
+    let few = (word.b % 256) as u8;
+    match change {
+        Change::Phys | Change::Number => {}
+        Change::Address => phy.own.address = few,
+        Change::Implemented => phy.own.implemented = word.b,
+        Change::Default => phy.defaults[r] = value,
+        Change::Mask => phy.masks[r] = value,
+        Change::Register => phy.registers[r] = value,
+        Change::Up => phy.link = word.b == 1,
+        Change::Hunting => phy.follower = Follower::Hunting(few),
+        Change::Within => phy.follower = Follower::Inside(few, word.c),
+        Change::Captured => phy.captured = (word.b % 0x1_0000) as u16,
     }
     phy
 }
 
-// The PHY with another follower.
-fn following(phy: Phy, word: Word) -> Phy {
-    let letter = word.letter;
-    let n = (word.b % 256) as u8;
-    match letter {
-        b'h' => phy.with_line(Follower::Hunting(n), phy.captured),
-        b'w' => phy.with_line(Follower::Inside(n, word.c), phy.captured),
-        _ => phy,
+impl Desk {
+    pub(crate) fn change(&mut self, change: Change, word: Word) {
+        let n = word.a as usize;
+        match change {
+            Change::Phys => self.board = loaded(&self.file, word.a),
+            Change::Number => self.board.count = n,
+            _ => {
+                if n < Board::PLACES {
+                    self.board.phys[n] = changed(self.board.phys[n], change, word);
+                }
+            }
+        }
     }
-}
-
-// The PHY at a place changed.
-pub(crate) fn phy(mut board: Board, word: Word) -> Board {
-    let place = word.a as usize;
-    if place < Board::PLACES {
-        let fields = refielded(board.phys[place], word);
-        let phy = following(fields, word);
-        board.phys[place] = phy;
-    }
-    board
-}
-
-// Another board, or another number of PHYs.
-pub(crate) fn whole(mut board: Board, word: Word, file: &File) -> Board {
-    if word.letter == b'p' {
-        return loaded(file, word.a);
-    }
-    board.count = word.a as usize;
-    board
 }

@@ -8,58 +8,75 @@
 //     Given I      byte I of the answers
 //     Flag I       byte I of the log
 //     Output I     byte I of the text
-use crate::buffers::{Answers, Log, Steps, Text};
+use crate::desk::Desk;
 use crate::script::Word;
-use crate::text;
-use board::Board;
 use frame::{Answer, Frame};
 use std::io;
-use verdict::byte_at;
+use verdict::{byte_at, word_at};
 
-fn byte(rt: &impl Print, buffer: &[u8], i: usize) -> io::Result<()> {
-    text::number(rt, byte_at(buffer, i) as usize)
+#[derive(Clone, Copy)]
+pub(crate) enum Show {
+    Comma,
+    Answer,
+    Heard,
+    Word,
+    Step,
+    Given,
+    Flag,
+    Output,
 }
 
-// The byte at one place of a buffer, and the word at another.
-fn byte_and_word(rt: &impl Print, buffer: &[u8], at: usize, place: usize) -> io::Result<()> {
-    byte(rt, buffer, at)?;
-    text::four_digits(rt, verdict::word_at(buffer, place) as usize)
-}
-
-fn register(rt: &impl Print, board: Board, word: Word) -> io::Result<()> {
-    let place = word.a as usize;
-    if place < Board::PLACES {
-        let phy = board.phys[place];
-        return text::four_digits(rt, phy.word((word.b % 256) as u8) as usize);
+impl Show {
+    pub(crate) fn of(letter: u8) -> Option<Show> {
+        match letter {
+            b',' => Some(Show::Comma),
+            b'A' => Some(Show::Answer),
+            b'H' => Some(Show::Heard),
+            b'W' => Some(Show::Word),
+            b'S' => Some(Show::Step),
+            b'G' => Some(Show::Given),
+            b'F' => Some(Show::Flag),
+            b'O' => Some(Show::Output),
+            _ => None,
+        }
     }
-    Ok(())
 }
 
-pub(crate) fn all(
-    rt: &impl Print,
-    board: Board,
-    word: Word,
-    steps: &Steps,
-    log: &Log,
-    answers: &Answers,
-    text: &Text,
-) -> io::Result<()> {
-    let letter = word.letter;
-    match letter {
-        b',' => text::words(rt, b","),
-        b'A' => {
-            let at = word.a as usize * Answer::BYTES;
-            byte_and_word(rt, answers, at, at + 4)
+// A byte, decimal, and the word that a place has, in four hexadecimal digits.
+fn byte_and_word(rt: &impl Print, buffer: &[u8], at: usize, place: usize) -> io::Result<()> {
+    let byte = byte_at(buffer, at);
+    let word = word_at(buffer, place);
+    print!(rt; " {byte} {word:04X}")
+}
+
+fn byte(rt: &impl Print, buffer: &[u8], at: u32) -> io::Result<()> {
+    print!(rt; " {}", byte_at(buffer, at as usize))
+}
+
+impl Desk {
+    pub(crate) fn show(&self, rt: &impl Print, show: Show, word: Word) -> io::Result<()> {
+        match show {
+            Show::Comma => rt.write_all(b","),
+            Show::Answer => {
+                let at = word.a as usize * Answer::BYTES;
+                byte_and_word(rt, &self.answers, at, at + 4)
+            }
+            Show::Heard => {
+                let at = word.a as usize * Frame::LOG_RECORD;
+                byte_and_word(rt, &self.log, at, at + 3)
+            }
+            Show::Word => self.register(rt, word),
+            Show::Step => byte(rt, &self.steps, word.a),
+            Show::Given => byte(rt, &self.answers, word.a),
+            Show::Flag => byte(rt, &self.log, word.a),
+            Show::Output => byte(rt, &self.text, word.a),
         }
-        b'H' => {
-            let at = word.a as usize * Frame::LOG_RECORD;
-            byte_and_word(rt, log, at, at + 3)
+    }
+
+    fn register(&self, rt: &impl Print, word: Word) -> io::Result<()> {
+        match self.board.phys.get(word.a as usize) {
+            Some(phy) => print!(rt; " {:04X}", phy.word((word.b % 256) as u8)),
+            None => Ok(()),
         }
-        b'W' => register(rt, board, word),
-        b'S' => byte(rt, steps, word.a as usize),
-        b'G' => byte(rt, answers, word.a as usize),
-        b'F' => byte(rt, log, word.a as usize),
-        b'O' => byte(rt, text, word.a as usize),
-        _ => Ok(()),
     }
 }

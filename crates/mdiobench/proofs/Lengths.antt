@@ -20,9 +20,9 @@ pub counts : (n : ℕ) (xs : List ℕ) → n ≤ length xs → IsPrefixLen n xs
 counts n xs within = (within, sym (length-take-le n xs within))
 
 -- what stands for an input is within the buffer
-pub stand-in-fits : (room size past : ℕ) → size ≤ room → past < size → stand_in room size past ≤ room
+pub stand_in_fits : (room size past : ℕ) → size ≤ room → past < size → stand_in room size past ≤ room
 unfolding stand_in
-stand-in-fits room size past fits below =
+stand_in_fits room size past fits below =
     elim (ℕ_discrete past 0) [ yes none ↦ rw (eq-eqb past 0 none) (omega arith) | no some ↦ rw (ne_eqb past 0 some) (omega arith) ]
 
 module _ (size most : ℕ) (fault : ℕ → ℕ) (file : List ℕ) where

@@ -17,6 +17,5 @@ fn read_back(rt: &impl Print, levels: &[u8]) -> io::Result<()> {
 
 pub(crate) fn run(rt: &(impl Input + Print)) -> io::Result<()> {
     let mut levels = zeroed::<{ input::CAPTURE }>();
-    let size = input::read(&mut rt.reader(), &mut levels, 1);
-    read_back(rt, &levels[..size])
+    read_back(rt, input::read(&mut rt.reader(), &mut levels, 1))
 }

@@ -1,6 +1,8 @@
 // The program's inputs, of any length, each read into a buffer of one record more than the documents allow. A read that fails
 // fills no more of its buffer, as the end of a file does.
-ghost use Rattle.std.specs.Prelude.{◌≡◌, ◌+◌, ◌%◌, ◌≤◌, ◌<◌, length};
+#![tactic(auto, using(crate::proofs::Lengths::counts, crate::proofs::Lengths::stand_in_fits))]
+
+ghost use Rattle.std.specs.Prelude.{◌≡◌, ◌≤◌, ◌<◌, length};
 ghost use Rattle.mdiobench.specs.Input.{IsPrefixLen, stand_in};
 
 use board::Board;
@@ -9,7 +11,7 @@ use listener::Capture;
 use std::fs;
 use std::io::Read;
 use std::rt::Files;
-use verdict::zeroed;
+use verdict::{read_full, zeroed};
 
 // The buffers: 33 board records, 65 transactions, 257 events, 4,161 levels.
 pub(crate) const BOARD: usize = (Board::PLACES + 1) * Board::RECORD;
@@ -23,53 +25,26 @@ pub(crate) const CAPTURE: usize = Capture::MOST + 1;
 // What follows a buffer's bytes is read in chunks and let go.
 const CHUNK: usize = 65536;
 
-// Reads until the buffer is full, the input ends or a read fails, and answers how many bytes it put at the start of the buffer.
-fn read_full<R: Read>(reader: &mut R, buffer: &mut [u8]) -> usize
-    ensures { IsPrefixLen result buffer.new }
-{
-    let mut done = 0;
-    while done < buffer.len() {
-        let Ok(more) = reader.read(&mut buffer[done..]) else {
-            return done;
-        };
-        if more == 0 {
-            return done;
-        }
-        done += more;
-    }
-    done
-}
-
-// How far `rest` bytes and `more` go past the last whole record; the sum itself need not fit.
-fn past(rest: usize, more: usize, size: usize) -> usize
-    requires { (0 < size) × (size ≤ 134) }
-    ensures { result ≡ (rest + more) % size }
-{
-    (rest % size + more % size) % size
-}
-
 // How far the rest of an input goes past its last whole record. It is read to its end, or for as many reads as a u64
 // counts, which no input lives to see.
 fn rest_of<R: Read>(reader: &mut R, size: usize) -> usize
     requires { (0 < size) × (size ≤ 134) }
     ensures { result < size }
 {
-    let mut space = zeroed::<CHUNK>();
-    let chunk: &mut [u8] = &mut space;
-    let mut rest: usize = 0;
-    let mut left: u64 = 18446744073709551615;
-    while left > 0 {
-        let more = read_full(reader, chunk);
+    let mut chunk = zeroed::<CHUNK>();
+    let mut past = 0;
+    for _ in 0..u64::MAX {
+        let more = read_full(reader, &mut chunk).len();
         if more == 0 {
-            return rest;
+            break;
         }
-        rest = past(rest, more, size);
-        left -= 1;
+        past = (past + more) % size;
     }
-    rest
+    past
 }
 
 // How many bytes of a full buffer stand for an input that goes on after it: as many as are refused by the same number.
+#[tactic(auto, unfolding(crate::specs::Input::stand_in))]
 fn stand_in(room: usize, size: usize, past: usize) -> usize
     requires { (size ≤ room) × (past < size) }
     ensures { result ≡ stand_in room size past }
@@ -77,25 +52,31 @@ fn stand_in(room: usize, size: usize, past: usize) -> usize
     if past == 0 { room } else { room - size + past }
 }
 
-// Reads an input of records of a size, and answers how many of the buffer's bytes stand for it.
-pub(crate) fn read<R: Read>(reader: &mut R, buffer: &mut [u8], size: usize) -> usize
+// Reads an input of records of a size, and hands back the part of the buffer that stands for it.
+pub(crate) fn read<'a, R: Read>(reader: &mut R, buffer: &'a mut [u8], size: usize) -> &'a [u8]
     requires { (0 < size) × (size ≤ 134) × (size ≤ length buffer.old) }
-    ensures { IsPrefixLen result buffer.new }
+    ensures { IsPrefixLen (length result.now) buffer.old }
 {
+    let room = buffer.len();
     let kept = read_full(reader, buffer);
-    if kept < buffer.len() {
+    if kept.len() < room {
         return kept;
     }
-    stand_in(buffer.len(), size, rest_of(reader, size))
+    &kept[..stand_in(room, size, rest_of(reader, size))]
 }
 
 // The same for a file of the folder; one that can't be opened counts as empty.
-pub(crate) fn read_file<R: Files>(rt: &R, name: &str, buffer: &mut [u8], size: usize) -> usize
+pub(crate) fn read_file<'a, R: Files>(
+    rt: &R,
+    name: &str,
+    buffer: &'a mut [u8],
+    size: usize,
+) -> &'a [u8]
     requires { (0 < size) × (size ≤ 134) × (size ≤ length buffer.old) }
-    ensures { IsPrefixLen result buffer.new }
+    ensures { IsPrefixLen (length result.now) buffer.old }
 {
     let Ok(mut file) = fs::open(rt, name) else {
-        return 0;
+        return &[];
     };
     read(&mut file, buffer, size)
 }

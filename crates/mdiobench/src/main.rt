@@ -17,13 +17,6 @@ use std::io;
 use std::rt::{Env, Files};
 use verdict::zeroed;
 
-// What is asked of a tray.
-#[derive(Clone, Copy)]
-enum Wanted {
-    Answers,
-    Waveform,
-}
-
 // Board and list have passed, and there is room for every answer: only the events can be refused (`only-events`).
 fn answer(rt: &impl Print, board: Board, list: &[u8], events: &[u8]) -> io::Result<()>
     requires { Passed board list.now }
@@ -35,14 +28,16 @@ fn answer(rt: &impl Print, board: Board, list: &[u8], events: &[u8]) -> io::Resu
     }
 }
 
-// The files are checked in the order board, list, events.
-fn bench(
+// The files are checked in the order board, list, events: what is sent has a board and a list that have passed.
+fn bench<S: Fn(Board, &[u8], &[u8]) -> io::Result<()>>(
     rt: &impl Print,
     board_file: &[u8],
     list: &[u8],
     events: &[u8],
-    wanted: Wanted,
-) -> io::Result<()> {
+    send: S,
+) -> io::Result<()>
+    requires { (board : _) (list : _) (events : _) → Passed board list.now → S.pre send board list events }
+{
     let loaded = load(board_file);
     if let Err(refusal) = loaded.verdict {
         return report::refusal(rt, refusal, "board");
@@ -50,27 +45,24 @@ fn bench(
     if let Err(refusal) = check_list(list) {
         return report::refusal(rt, refusal, "list");
     }
-    match wanted {
-        Wanted::Answers => answer(rt, loaded.board, list, events),
-        Wanted::Waveform => wave::show(rt, loaded.board, list, events),
-    }
+    send(loaded.board, list, events)
 }
 
-// Document 01: "The program takes the list on standard input, and `board.rec` and `events.rec` from its directory".
-fn tray(rt: &(impl Files + Input + Print), wanted: Wanted) -> io::Result<()> {
-    let mut board_file = zeroed::<{ input::BOARD }>();
-    let board_bytes = input::read_file(rt, "board.rec", &mut board_file, Board::RECORD);
+// Document 01: "The program takes the list on standard input, and `board.rec` and `events.rec` from its directory". What passes
+// is sent as asked: for its answers, or for its waveform.
+fn tray<S: Fn(Board, &[u8], &[u8]) -> io::Result<()>>(
+    rt: &(impl Files + Input + Print),
+    send: S,
+) -> io::Result<()>
+    requires { (board : _) (list : _) (events : _) → Passed board list.now → S.pre send board list events }
+{
+    let mut board = zeroed::<{ input::BOARD }>();
+    let board = input::read_file(rt, "board.rec", &mut board, Board::RECORD);
     let mut list = zeroed::<{ input::LIST }>();
-    let list_bytes = input::read(&mut rt.reader(), &mut list, Transaction::BYTES);
+    let list = input::read(&mut rt.reader(), &mut list, Transaction::BYTES);
     let mut events = zeroed::<{ input::EVENTS }>();
-    let event_bytes = input::read_file(rt, "events.rec", &mut events, Board::EVENT_RECORD);
-    bench(
-        rt,
-        &board_file[..board_bytes],
-        &list[..list_bytes],
-        &events[..event_bytes],
-        wanted,
-    )
+    let events = input::read_file(rt, "events.rec", &mut events, Board::EVENT_RECORD);
+    bench(rt, board, list, events, send)
 }
 
 // Whether there is an argument at an index; the program's name stands at 0.
@@ -89,11 +81,14 @@ fn says(rt: &impl Env, word: &[u8]) -> bool {
 
 fn main(rt: HostRuntime) -> io::Result<()> {
     if !has_argument(&rt, 1) {
-        return tray(&rt, Wanted::Answers);
+        return tray(&rt, |board, list, events| answer(&rt, board, list, events));
     }
     if !has_argument(&rt, 2) {
         if says(&rt, b"vcd") {
-            return tray(&rt, Wanted::Waveform);
+            return tray(
+                &rt,
+                |board, list, events| wave::show(&rt, board, list, events),
+            );
         }
         if says(&rt, b"listen") {
             return capture::run(&rt);

@@ -85,5 +85,9 @@ pub(crate) fn answers(rt: &impl Print, records: &[u8]) -> io::Result<()> {
 
 // `refused N FILE INDEX`.
 pub(crate) fn refusal(rt: &impl Print, refusal: Refusal, file: &str) -> io::Result<()> {
-    println!(rt; "refused {} {file} {}", u8::from(refusal.fault), refusal.index)
+    println!(rt;
+        "refused {} {file} {}",
+        u8::from(refusal.fault),
+        refusal.index
+    )
 }

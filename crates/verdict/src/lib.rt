@@ -1,12 +1,14 @@
 // What every call shares: its answer, and the bytes of a file (document 01, "Records" and "Refusal numbers").
 #![tactic(auto)]
 
-ghost use Rattle.std.specs.Prelude.{◌≡◌, length};
+ghost use Rattle.std.specs.Prelude.{◌≡◌, ◌≤◌, length, take};
+ghost use Rattle.std.specs.Io.KnownBytes.{Consumes};
 ghost use Rattle.verdict.specs.File.{byte_at, word_at, bytes_verdict};
 ghost use Rattle.verdict.specs.Output.{zeros};
 ghost use Rattle.verdict.specs.Refusal.{said, number_of, refusal_at};
 
 use std::fmt;
+use std::io::Read;
 
 // What a refusal is given for. As a number each is the one of document 01.
 #[derive(Clone, Copy, Debug, PartialEq, Eq)]
@@ -102,4 +104,29 @@ pub fn zeroed<const N: usize>() -> [u8; N]
     ensures zeros { result ≡ zeros N }
 {
     [0; N]
+}
+
+// What one read puts at the buffer's start: nothing at the input's end, nor where it fails.
+fn read_some<R: Read>(reader: &mut R, buffer: &mut [u8]) -> usize
+    ensures within { result ≤ length buffer.new }
+    ensures bytes { Consumes (R.remaining reader.old) (R.remaining reader.new) (take result buffer.new) }
+{
+    reader.read(buffer).unwrap_or(0)
+}
+
+// Reads until the buffer is full, the input ends or a read fails, and hands back the part of the buffer that it filled: what the
+// input lost, byte for byte.
+pub fn read_full<'a, R: Read>(reader: &mut R, buffer: &'a mut [u8]) -> &'a [u8]
+    ensures within { length result.now ≤ length buffer.old }
+    ensures bytes { Consumes (R.remaining reader.old) (R.remaining reader.new) result.now }
+{
+    let mut done = 0;
+    while done < buffer.len() {
+        let more = read_some(reader, &mut buffer[done..]);
+        if more == 0 {
+            break;
+        }
+        done += more;
+    }
+    &buffer[..done]
 }

@@ -1,6 +1,0 @@
--- The places rise to the end of the line.
-use Rattle.std.proofs.Common.{length, ◌-◌}
-use Rattle.cases.proofs.script.behind.Given as goal
-
-abbrev pub decreases-loop-at : goal.decreases-loop-at
-decreases-loop-at l = length l.line - l.at

@@ -1,0 +1,119 @@
+// What a case works on: a board, and the buffers, as each case finds them. The words that write into them are in `writes`.
+use crate::calls::Call;
+use crate::changes::Change;
+use crate::script::Word;
+use crate::show::Show;
+use crate::writes::Write;
+use board::Board;
+use frame::{Answer, Frame, Steps, Transaction};
+use std::io;
+use verdict::zeroed;
+use waveform::Waveform;
+
+// The inputs have room for one record more than is allowed.
+const FILE: usize = (Board::PLACES + 1) * Board::RECORD;
+
+const LIST: usize = (Transaction::MOST + 1) * Transaction::BYTES;
+
+const EVENTS: usize = (Board::MOST_EVENTS + 1) * Board::EVENT_RECORD;
+
+// The outputs have it too, and a byte behind it.
+const STEPS: usize = (Transaction::MOST + 1) * Frame::CLOCKS + 1;
+
+const LOG: usize = (Steps::MOST + 1) * Frame::LOG_RECORD + 1;
+
+const ANSWERS: usize = (Transaction::MOST + 1) * Answer::BYTES + 1;
+
+const TEXT: usize = Waveform::LONGEST + 1;
+
+#[derive(Drop)]
+pub(crate) struct Desk {
+    pub(crate) board: Board,
+    pub(crate) file: [u8; FILE],
+    pub(crate) list: [u8; LIST],
+    pub(crate) events: [u8; EVENTS],
+    pub(crate) steps: [u8; STEPS],
+    pub(crate) log: [u8; LOG],
+    pub(crate) answers: [u8; ANSWERS],
+    pub(crate) text: [u8; TEXT],
+}
+
+// 33 board records like board P's, with the addresses 0 to 32.
+fn file() -> [u8; FILE] {
+    let mut file = zeroed::<FILE>();
+    for (address, record) in (0u8..).zip(file.chunks_exact_mut(Board::RECORD)) {
+        record[0] = address;
+        record[5] = 0x0F;
+        record[6] = 0x30;
+        record[8] = 0x78;
+        record[9] = 0x49;
+    }
+    file
+}
+
+// 65 reads of the status of PHY 1.
+fn list() -> [u8; LIST] {
+    let mut list = zeroed::<LIST>();
+    for record in list.chunks_exact_mut(Transaction::BYTES) {
+        record[0] = Transaction::READ;
+        record[1] = 1;
+        record[2] = 1;
+    }
+    list
+}
+
+// 257 events: event k at clock k, its addresses 0 to 31 and its codes 1 to 7 in turn.
+fn events() -> [u8; EVENTS] {
+    let mut events = zeroed::<EVENTS>();
+    for (k, record) in (0u16..).zip(events.chunks_exact_mut(Board::EVENT_RECORD)) {
+        let [high, low] = k.to_be_bytes();
+        record[0] = high;
+        record[1] = low;
+        record[2] = (k % 32) as u8;
+        record[3] = (k % 7 + 1) as u8;
+    }
+    events
+}
+
+// An output's room, of bytes that no log has for its flags, and no text anywhere; as flags they say that no signal is 1.
+fn unwritten<const N: usize>() -> [u8; N] {
+    [8; N]
+}
+
+impl Desk {
+    pub(crate) fn fresh() -> Desk {
+        let file = file();
+        let list = list();
+        let events = events();
+        let steps = unwritten::<STEPS>();
+        let log = unwritten::<LOG>();
+        let answers = unwritten::<ANSWERS>();
+        let text = unwritten::<TEXT>();
+        Desk {
+            board: board::load(b"").board,
+            file,
+            list,
+            events,
+            steps,
+            log,
+            answers,
+            text,
+        }
+    }
+
+    // What a word of a case does. A misspelt one shows as a question mark.
+    pub(crate) fn obey(&mut self, rt: &impl Print, word: Word) -> io::Result<()> {
+        if let Some(write) = Write::of(word.letter) {
+            self.write(write, word);
+        } else if let Some(change) = Change::of(word.letter) {
+            self.change(change, word);
+        } else if let Some(call) = Call::of(word.letter) {
+            self.call(rt, call, word)?;
+        } else if let Some(show) = Show::of(word.letter) {
+            self.show(rt, show, word)?;
+        } else {
+            rt.write_all(b" ?")?;
+        }
+        Ok(())
+    }
+}
