@@ -1,3 +1,4 @@
 pub mod Lengths
 pub mod Drawings
 pub mod Refusals
+pub mod Printed

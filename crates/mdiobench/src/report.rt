@@ -1,34 +1,17 @@
 // What the program prints (document 01: "Ordinal, W or R, address, register (two decimal digits each), status, data (four
 // hex digits, capitals), one space between").
-ghost use Rattle.std.specs.Prelude.{◌≡◌, ◌<◌, length};
+ghost use Rattle.std.specs.Prelude.{◌≡◌, ◌<◌, Some};
 ghost use Rattle.verdict.specs.File.{records};
 ghost use Rattle.frame.specs.Answers.{answer_record};
-ghost use Rattle.mdiobench.specs.Line.{digit_of, letter_of, answer_at, after_ordinal};
+ghost use Rattle.mdiobench.specs.Line.{letter_of, answer_at, after_ordinal};
 
 use frame::{Answer, Transaction};
 use listener::Capture;
-use std::io;
+use std::{fmt, io};
 use verdict::{Refusal, byte_at, word_at};
 
 // Room for as many answers as a capture can give, one more than the longest list has.
 pub(crate) const ANSWERS: usize = Capture::MOST_RECORDS * Answer::BYTES;
-
-fn digit(value: u16) -> u8
-    requires { value < 16 }
-    ensures { result ≡ digit_of value }
-{
-    if value < 10 {
-        b'0' + value as u8
-    } else {
-        b'A' + (value - 10) as u8
-    }
-}
-
-fn letter(op: u8) -> u8
-    ensures { result ≡ letter_of op }
-{
-    if op == Transaction::READ { b'R' } else { b'W' }
-}
 
 // The answer at an index of the output.
 fn answer_at(answers: &[u8], k: usize) -> Answer
@@ -45,40 +28,39 @@ fn answer_at(answers: &[u8], k: usize) -> Answer
     }
 }
 
-// An answer's line after its ordinal.
-fn after_ordinal(answer: Answer) -> [u8; 16]
-    ensures { result ≡ after_ordinal answer }
+#[tactic(auto, unfolding(crate::specs::Line::letter_of))]
+fn letter(op: u8) -> char
+    ensures { result ≡ letter_of op }
 {
-    let address = answer.address as u16;
-    let register = answer.register as u16;
-    let status = answer.status as u16;
-    let data = answer.data;
-    [
-        b' ',
-        letter(answer.op),
-        b' ',
-        digit(address / 10 % 10),
-        digit(address % 10),
-        b' ',
-        digit(register / 10 % 10),
-        digit(register % 10),
-        b' ',
-        digit(status % 10),
-        b' ',
-        digit(data / 4096 % 16),
-        digit(data / 256 % 16),
-        digit(data / 16 % 16),
-        digit(data % 16),
-        b'\n',
-    ]
+    if op == Transaction::READ { 'R' } else { 'W' }
+}
+
+// An answer's line after its ordinal.
+#[derive(Drop)]
+struct AfterOrdinal(Answer);
+
+impl fmt::Display for AfterOrdinal {
+    ghost output = { λ line. Some (after_ordinal line.0) };
+
+    fn fmt<W: fmt::Write>(&self, f: &mut fmt::Formatter<W>) -> fmt::Result {
+        let answer = self.0;
+        let letter = letter(answer.op);
+        let address = answer.address % 100;
+        let register = answer.register % 100;
+        let status = answer.status % 10;
+        let data = answer.data;
+        write!(
+            f,
+            " {letter} {address:02} {register:02} {status} {data:04X}\n"
+        )
+    }
 }
 
 // The lines of these answers.
 pub(crate) fn answers(rt: &impl Print, records: &[u8]) -> io::Result<()> {
     for k in 0..records.len() / Answer::BYTES {
-        let line = after_ordinal(answer_at(records, k));
-        rt.print(k + 1)?;
-        rt.write_all(&line)?;
+        let line = AfterOrdinal(answer_at(records, k));
+        print!(rt; "{}{line}", k + 1)?;
     }
     Ok(())
 }
