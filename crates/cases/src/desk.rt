@@ -17,7 +17,7 @@ const LIST: usize = (Transaction::MOST + 1) * Transaction::BYTES;
 
 const EVENTS: usize = (Board::MOST_EVENTS + 1) * Board::EVENT_RECORD;
 
-// The outputs have it too, and a byte behind it.
+// The outputs have it too, and a byte behind it; the text has room for the longest, and that byte.
 const STEPS: usize = (Transaction::MOST + 1) * Frame::CLOCKS + 1;
 
 const LOG: usize = (Steps::MOST + 1) * Frame::LOG_RECORD + 1;

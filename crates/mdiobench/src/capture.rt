@@ -1,6 +1,7 @@
 // The program as a listener (document 02, E1: "Our analyser saves one byte per clock, 0 or 1. We want a listener that turns up
 // to 4,160 such bytes into answer records"). It takes such a capture on standard input, and prints a record a line, or one
 // refusal.
+use crate::input::Records;
 use crate::{input, report};
 use listener::listen;
 use std::io;
@@ -17,5 +18,6 @@ fn read_back(rt: &impl Print, levels: &[u8]) -> io::Result<()> {
 
 pub(crate) fn run(rt: &(impl Input + Print)) -> io::Result<()> {
     let mut levels = zeroed::<{ input::CAPTURE }>();
-    read_back(rt, input::read(&mut rt.reader(), &mut levels, 1))
+    let byte = Records { size: 1 };
+    read_back(rt, byte.read(&mut rt.reader(), &mut levels))
 }

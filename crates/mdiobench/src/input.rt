@@ -25,24 +25,6 @@ pub(crate) const CAPTURE: usize = Capture::MOST + 1;
 // What follows a buffer's bytes is read in chunks and let go.
 const CHUNK: usize = 65536;
 
-// How far the rest of an input goes past its last whole record. It is read to its end, or for as many reads as a u64
-// counts, which no input lives to see.
-fn rest_of<R: Read>(reader: &mut R, size: usize) -> usize
-    requires { (0 < size) × (size ≤ 134) }
-    ensures { result < size }
-{
-    let mut chunk = zeroed::<CHUNK>();
-    let mut past = 0;
-    for _ in 0..u64::MAX {
-        let more = read_full(reader, &mut chunk).len();
-        if more == 0 {
-            break;
-        }
-        past = (past + more) % size;
-    }
-    past
-}
-
 // How many bytes of a full buffer stand for an input that goes on after it: as many as are refused by the same number.
 #[tactic(auto, unfolding(crate::specs::Input::stand_in))]
 fn stand_in(room: usize, size: usize, past: usize) -> usize
@@ -52,31 +34,57 @@ fn stand_in(room: usize, size: usize, past: usize) -> usize
     if past == 0 { room } else { room - size + past }
 }
 
-// Reads an input of records of a size, and hands back the part of the buffer that stands for it.
-pub(crate) fn read<'a, R: Read>(reader: &mut R, buffer: &'a mut [u8], size: usize) -> &'a [u8]
-    requires { (0 < size) × (size ≤ 134) × (size ≤ length buffer.old) }
-    ensures { IsPrefixLen (length result.now) buffer.old }
-{
-    let room = buffer.len();
-    let kept = read_full(reader, buffer);
-    if kept.len() < room {
-        return kept;
-    }
-    &kept[..stand_in(room, size, rest_of(reader, size))]
+// The records of an input, by their size in bytes.
+#[derive(Clone, Copy)]
+pub(crate) struct Records {
+    pub(crate) size: usize,
+    ghost in_range: { (0 < size) × (size ≤ 134) },
 }
 
-// The same for a file of the folder; one that can't be opened counts as empty.
-pub(crate) fn read_file<'a, R: Files>(
-    rt: &R,
-    name: &str,
-    buffer: &'a mut [u8],
-    size: usize,
-) -> &'a [u8]
-    requires { (0 < size) × (size ≤ 134) × (size ≤ length buffer.old) }
-    ensures { IsPrefixLen (length result.now) buffer.old }
-{
-    let Ok(mut file) = fs::open(rt, name) else {
-        return &[];
-    };
-    read(&mut file, buffer, size)
+impl Records {
+    // How far the rest of an input goes past its last whole record. It is read to its end, or for as many reads as a u64
+    // counts, which no input lives to see.
+    fn rest_of<R: Read>(self, reader: &mut R) -> usize
+        ensures { result < self.size }
+    {
+        let mut chunk = zeroed::<CHUNK>();
+        let mut past = 0;
+        for _ in 0..u64::MAX {
+            let more = read_full(reader, &mut chunk).len();
+            if more == 0 {
+                break;
+            }
+            past = (past + more) % self.size;
+        }
+        past
+    }
+
+    // Reads an input, and hands back the part of the buffer that stands for it.
+    pub(crate) fn read<'a, R: Read>(self, reader: &mut R, buffer: &'a mut [u8]) -> &'a [u8]
+        requires { self.size ≤ length buffer.old }
+        ensures { IsPrefixLen (length result.now) buffer.old }
+    {
+        let room = buffer.len();
+        let kept = read_full(reader, buffer);
+        if kept.len() < room {
+            return kept;
+        }
+        &kept[..stand_in(room, self.size, self.rest_of(reader))]
+    }
+
+    // The same for a file of the folder; one that can't be opened counts as empty.
+    pub(crate) fn read_file<'a, R: Files>(
+        self,
+        rt: &R,
+        name: &str,
+        buffer: &'a mut [u8],
+    ) -> &'a [u8]
+        requires { self.size ≤ length buffer.old }
+        ensures { IsPrefixLen (length result.now) buffer.old }
+    {
+        let Ok(mut file) = fs::open(rt, name) else {
+            return &[];
+        };
+        self.read(&mut file, buffer)
+    }
 }

@@ -12,6 +12,7 @@ ghost use Rattle.mdiobench.specs.Tray.{Passed};
 use agreement::exchange;
 use board::{Board, load};
 use frame::{Transaction, check_list};
+use input::Records;
 use std::env::FillError;
 use std::io;
 use std::rt::{Env, Files};
@@ -57,11 +58,20 @@ fn tray<S: Fn(Board, &[u8], &[u8]) -> io::Result<()>>(
     requires { (board : _) (list : _) (events : _) → Passed board list.now → S.pre send board list events }
 {
     let mut board = zeroed::<{ input::BOARD }>();
-    let board = input::read_file(rt, "board.rec", &mut board, Board::RECORD);
+    let board = Records {
+        size: Board::RECORD,
+    }
+    .read_file(rt, "board.rec", &mut board);
     let mut list = zeroed::<{ input::LIST }>();
-    let list = input::read(&mut rt.reader(), &mut list, Transaction::BYTES);
+    let list = Records {
+        size: Transaction::BYTES,
+    }
+    .read(&mut rt.reader(), &mut list);
     let mut events = zeroed::<{ input::EVENTS }>();
-    let events = input::read_file(rt, "events.rec", &mut events, Board::EVENT_RECORD);
+    let events = Records {
+        size: Board::EVENT_RECORD,
+    }
+    .read_file(rt, "events.rec", &mut events);
     bench(rt, board, list, events, send)
 }
 
