@@ -10,7 +10,7 @@ use lib.ListN.{length, get_or, set, take, drop, drop_of_length-le, length-map}
 use lib.Seq.{take_all}
 use borrow.Author.Tests.{ltb-true, leb-true, le-leb, eqb-true, not-true}
 use Rattle.std.specs.Prelude.{Option, Some, None, unwrap_or, option_map}
-use Rattle.std.specs.List.{list_all}
+use Rattle.std.specs.List.{list_all, slice_get}
 use Rattle.std.specs.Option.{option_map_or}
 use Rattle.verdict.specs.Lists.{All}
 use Rattle.verdict.proofs.Elements.{all-map-of, all_then, map_same, map-stays, map-then}
@@ -197,12 +197,12 @@ same-is (Inside seen bits) (Inside seen' bits') e =
     ap₂ Inside (eqb-true seen seen' tests.0) (eqb-true bits bits' tests.1)
 
 -- what lines have in common, told by the first and by a test of all
-pub common-is : (lines : List Line) (first d : Line) (b : Bool) → 0 < length lines → first ≡ get_or lines 0 d → b ≡ list_all (λ line. same_follower line.follower first.follower) lines → cond b (alike_by first.follower) apart ≡ common_of lines
+pub common-is : (lines : List Line) (first : Line) (b : Bool) → Some first ≡ slice_get lines 0 → b ≡ list_all (λ line. same_follower line.follower first.follower) lines → cond b (alike_by first.follower) apart ≡ common_of lines
 unfolding common_of
-common-is [] first d b there is tests = absurd (omega arith)
-common-is (line ∷ lines) first d b there is tests =
+common-is [] first b there tests = absurd (let z : ◌≡◌ {A = ℕ} 0 1 = cc in omega arith)
+common-is (line ∷ lines) first b there tests =
     ap (λ t. cond t (alike_by first.follower) apart) tests
-    ∙ ap (λ (l : Line). cond (list_all (λ other. same_follower other.follower l.follower) (line ∷ lines)) (alike_by l.follower) apart) is
+    ∙ ap (λ (l : Line). cond (list_all (λ other. same_follower other.follower l.follower) (line ∷ lines)) (alike_by l.follower) apart) (ap (λ o. unwrap_or o first) there)
 
 -- where lines are found to be alike each stands as it is
 common-of : (lines : List Line) → standing (common_of lines) lines ≡ lines

@@ -4,7 +4,6 @@ use Rattle.std.specs.List.{list_all}
 use Rattle.std.proofs.lemmas.Iterator.{YieldsList-from_slice}
 use Rattle.std.proofs.lemmas.Iterator.Search.{all_from_yields_List}
 use Rattle.wire_machine.specs.Common.{same_follower}
-use Rattle.wire_machine.specs.Lines.{no_line}
 use Rattle.wire_machine.proofs.Alike.{common-is}
 use Rattle.wire_machine.proofs.common.Common.of.Goals as goal
 use Rattle.wire_machine.proofs.common.Common.of.Goals.{After-all}
@@ -15,10 +14,8 @@ tested c = all_from_yields_List (λ line. same_follower line.follower c.in-Some.
 
 pub returns-then-all : goal.returns-then-all
 returns-then-all c =
-    let first = c.in-Some.ensures.item in
-    common-is c.args.lines.now c.in-Some.first.now no_line _ first.3.0 (first.3.1 no_line) (sym c.if-all.true ∙ tested (goal.at.returns-then-all c).After-all)
+    common-is c.args.lines.now c.in-Some.first.now _ c.in-Some.ensures.value (sym c.if-all.true ∙ tested (goal.at.returns-then-all c).After-all)
 
 pub returns-else-all : goal.returns-else-all
 returns-else-all c =
-    let first = c.in-Some.ensures.item in
-    common-is c.args.lines.now c.in-Some.first.now no_line _ first.3.0 (first.3.1 no_line) (sym c.if-all.false ∙ tested (goal.at.returns-else-all c).After-all)
+    common-is c.args.lines.now c.in-Some.first.now _ c.in-Some.ensures.value (sym c.if-all.false ∙ tested (goal.at.returns-else-all c).After-all)
