@@ -11,7 +11,7 @@ use wire::{Follower, Header};
 #[derive(Clone, Copy)]
 pub(crate) struct Common {
     // The follower of every line, where all have the same. What a line itself says of its follower is then out of date.
-    pub(crate) follower: Option<Follower>,
+    follower: Option<Follower>,
 }
 
 // Whether a header of ours asks a PHY to read.

@@ -14,11 +14,11 @@ use wire::Drive;
 pub(crate) struct Heard {
     pub(crate) level: bool,
     // Whether the station drives, whether any party does, and whether two or more do.
-    pub(crate) station: bool,
-    pub(crate) some: bool,
-    pub(crate) several: bool,
+    station: bool,
+    some: bool,
+    several: bool,
     // Bit a where the PHY at address a drives.
-    pub(crate) mask: u32,
+    mask: u32,
 }
 
 // What the station does in a step.
@@ -33,14 +33,14 @@ pub(crate) fn station_drive(step: u8) -> Drive
 }
 
 impl Heard {
-    pub(crate) const LEVEL: u8 = 1;
+    const LEVEL: u8 = 1;
 
-    pub(crate) const STATION: u8 = 2;
+    const STATION: u8 = 2;
 
-    pub(crate) const SEVERAL: u8 = 4;
+    const SEVERAL: u8 = 4;
 
     // The station alone.
-    pub(crate) fn station(drive: Drive) -> Heard
+    fn station(drive: Drive) -> Heard
         ensures { result ≡ heard_station drive }
     {
         match drive {
