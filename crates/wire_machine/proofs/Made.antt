@@ -6,7 +6,7 @@ use native.Mathlib.Omega.{arith}
 use denote.Param.Members.{Mut, Called}
 use lib.ListN.{length, get_or}
 use lib.Seq.{take_all}
-use Rattle.core.specs.Array.{IsFromFnResultFrom, IsFromFnResult}
+use Rattle.std.specs.Array.{IsFromFnResultFrom, IsFromFnResult}
 use Rattle.verdict.proofs.Lists.{tabulate-of}
 use Rattle.between.proofs.Filling.{tabulate-map}
 
