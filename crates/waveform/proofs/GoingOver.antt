@@ -1,24 +1,22 @@
 -- Going over a text clock by clock: the clocks that are read so far, and those that are still to come, are all that it has.
-use Prim.Native.Nat.{ℕ, zero, suc, ◌+◌, ◌-◌, ◌≤◌, ◌<◌}
-use mathlib.Core.Path.{◌≡◌, refl, ap, ap₂, sym, ◌∙◌}
-use mathlib.Core.Bool.{Bool, true, false, cond}
+use Prim.Native.Nat.{ℕ, zero, suc, ◌+◌, ◌-◌, ◌<◌}
+use mathlib.Core.Path.{◌≡◌, refl, ap, sym, ◌∙◌}
+use mathlib.Core.Bool.{true, false}
 use mathlib.Core.List.{List, [], ◌∷◌, ◌++◌, map, map-append, append-nil}
 use Rattle.std.specs.Prelude.{Option, None, Some}
 use Rattle.std.proofs.lemmas.Option.{none-some}
 use native.Mathlib.Omega.{arith}
 use native.Mathlib.Numerals.{add-one}
 use lib.ListN.{length, take, drop, set, length-append}
-use lib.Dec.{eqb, ltb, leb}
-use borrow.Author.Tests.{le-leb, lt-leb}
 use Rattle.verdict.specs.Refusal.{Done, Refused}
 use Rattle.verdict.specs.Refusal.{wrong_text}
 use Rattle.std.proofs.lemmas.List.{take_more_set}
 use Rattle.frame.specs.Steps.{most_steps}
 use Rattle.waveform.specs.declared.signals.Signals.{Signals}
-use Rattle.waveform.specs.Text.{time_line, starts_with}
+use Rattle.waveform.specs.Text.{starts_with}
 use Rattle.waveform.specs.Signals.{signals_of, flags_of}
 use Rattle.waveform.specs.Waveform.{header}
-use Rattle.waveform.specs.Passes.{Shown, Next, Clock, Closing, Foreign, next_in, prepend, clocks_by, clocks_from, clocks_in, GoneOver}
+use Rattle.waveform.specs.Passes.{Shown, Clock, Closing, Foreign, next_in, prepend, clocks_by, clocks_from, clocks_in, GoneOver}
 
 -- clocks in front of those that are still to come
 unfoldable pub prepend_all : List Signals → Option (List Signals) → Option (List Signals)

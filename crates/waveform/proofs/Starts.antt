@@ -1,5 +1,5 @@
 -- Whether a text starts with a line: byte by byte, and what then stands behind the line.
-use Prim.Native.Nat.{ℕ, ◌+◌}
+use Prim.Native.Nat.{ℕ}
 use mathlib.Core.Path.{◌≡◌, refl, ap, ap₂, sym, ◌∙◌}
 use mathlib.Core.Bool.{Bool, true, false, ◌&&◌, and-eq-true_iff, false≢true}
 use mathlib.Core.List.{List, [], ◌∷◌, ◌++◌}

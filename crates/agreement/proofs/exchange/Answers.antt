@@ -9,15 +9,15 @@ pub returns-in_default : goal.returns-in_default
 returns-in_default c =
     let args = c.args in
     let says = ap said c.in_default.is in
-    let refused = not-logged _ _ _ (sym c.zeroed-log.ensures) c.send-sent.ensures says in
+    let refused = not-logged _ _ _ (sym c.zeroed-log.ensures.long) c.send-sent.ensures says in
     rw c.of.ensures (refuses-back (planning-sends _ _ _ args.answers.now ∙ rw refused) says)
 
 pub returns-in_default-decoded : goal.returns-in_default-decoded
 returns-in_default-decoded c =
-    let run = logged _ _ _ (sym c.zeroed-log.ensures) c.send-sent.ensures (ap said c.in-Ok.is) in
+    let run = logged _ _ _ (sym c.zeroed-log.ensures.long) c.send-sent.ensures (ap said c.in-Ok.is) in
     rw c.of-in_default-decoded.ensures (not-decoded _ _ _ run.passes run.log.bytes c.decode-decoded.ensures (ap said c.in_default-decoded.is))
 
 pub returns : goal.returns
 returns c =
-    let run = logged _ _ _ (sym c.zeroed-log.ensures) c.send-sent.ensures (ap said c.in-Ok.is) in
+    let run = logged _ _ _ (sym c.zeroed-log.ensures.long) c.send-sent.ensures (ap said c.in-Ok.is) in
     rw c.of-2.ensures (exchanged _ _ _ run.passes run.log.bytes c.decode-decoded.ensures (ap said c.in-Ok-decoded.is) run.board)

@@ -10,10 +10,10 @@ pub returns-in_default-translated : goal.returns-in_default-translated
 returns-in_default-translated c =
     let sound : checked c.args.board ≡ Done c.in-Ok.field-0 = sym c.check-sound.ensures ∙ ap said c.in-Ok.is in
     let says = ap said c.in_default-translated.is in
-    let refused = not-stepped _ (sym c.zeroed-steps.ensures) c.translate-translated.ensures says in
+    let refused = not-stepped _ (sym c.zeroed-steps.ensures.long) c.translate-translated.ensures says in
     rw c.of-in_default-translated.ensures (refuses-back (rw (sound, refused)) says)
 
 pub returns : goal.returns
 returns c =
-    let list = stepped _ (sym c.zeroed-steps.ensures) c.translate-translated.ensures (ap said c.in-Ok-translated.is) in
+    let list = stepped _ (sym c.zeroed-steps.ensures.long) c.translate-translated.ensures (ap said c.in-Ok-translated.is) in
     sent-by-run _ _ _ list.accepted list.steps.bytes c.run.ensures
