@@ -2,11 +2,9 @@
 ghost use Rattle.std.specs.Prelude.{◌≡◌};
 ghost use Rattle.phy.specs.Registers.{held_after};
 
-#[derive(Clone, Copy)]
-pub struct Status {}
+pub struct Status;
 
-#[derive(Clone, Copy)]
-pub struct ExtendedStatus {}
+pub struct ExtendedStatus;
 
 impl Status {
     pub const REGISTER: u8 = 1;

@@ -5,7 +5,6 @@ ghost use Rattle.verdict.specs.Refusal.{Done, judged};
 ghost use Rattle.verdict.specs.File.{records};
 ghost use Rattle.frame.specs.List.{list_record};
 ghost use Rattle.frame.specs.Answers.{answer_record};
-ghost use Rattle.wire.specs.Machines.{header_for};
 ghost use Rattle.plain_machine.specs.Plain.{planning};
 ghost use Rattle.plain_machine.specs.Transact.{lead_of, after_act, answer_of, Transacted};
 
@@ -15,18 +14,6 @@ use frame::{Answer, Frame, Transaction, parsed_at};
 use phy::Phy;
 use verdict::Fault;
 use wire::Header;
-
-// No `From`: Rust takes it only in the crate of one of the two types, and neither is of this one.
-fn header_for(transaction: Transaction) -> Header
-    ensures { result ≡ header_for transaction }
-{
-    Header {
-        start: Header::OUR_START,
-        op: transaction.op,
-        address: transaction.address,
-        register: transaction.register,
-    }
-}
 
 // The clocks of a transaction before the one in which it acts; past the list's end there are none.
 #[tactic(auto, unfolding(crate::specs::Transact::clocks_before))]
@@ -45,7 +32,7 @@ fn lead_of(parsed: Result<Transaction, Fault>) -> usize
 fn after_act(phy: Phy, transaction: Transaction) -> Phy
     ensures { result ≡ after_act transaction phy }
 {
-    let header = header_for(transaction);
+    let header = Header::from(transaction);
     if transaction.op == Transaction::READ {
         phy.after_header(header)
     } else {
@@ -70,7 +57,7 @@ fn unanswered(transaction: Transaction) -> Answer
 fn answer_of(phy: Phy, transaction: Transaction) -> Answer
     ensures { result ≡ answer_of transaction (phy ∷ []) }
 {
-    let header = header_for(transaction);
+    let header = Header::from(transaction);
     if phy.own.answers(header) {
         transaction.answer(Answer::ANSWERED, phy.word(header.register))
     } else {

@@ -72,9 +72,7 @@ pub fn word_at(file: &[u8], i: usize) -> u16
     ensures { result ≡ word_at file.now i }
 {
     if i < file.len() {
-        let high = byte_at(file, i) as u16;
-        let low = byte_at(file, i + 1) as u16;
-        high * 256 + low
+        u16::from_be_bytes([byte_at(file, i), byte_at(file, i + 1)])
     } else {
         0
     }

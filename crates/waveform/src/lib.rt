@@ -11,8 +11,7 @@ use frame::Steps;
 pub use read::read_vcd;
 pub use write::write_vcd;
 
-#[derive(Clone, Copy)]
-pub struct Waveform {}
+pub struct Waveform;
 
 impl Waveform {
     // As many clocks as the longest run has.

@@ -4,8 +4,9 @@
 
 ghost use Rattle.std.specs.Prelude.{◌≡◌};
 ghost use Rattle.wire.specs.Follower.{one_more, follow, header_of};
+ghost use Rattle.wire.specs.Machines.{header_for};
 
-use frame::Frame;
+use frame::{Frame, Transaction};
 
 // What one party does to the wire in a clock. An `Option<bool>` would be no plainer: `Some(false)` does not say that the party
 // pulls the wire to 0.
@@ -24,7 +25,8 @@ pub enum Follower {
     Inside(u8, u32),
 }
 
-// The first 14 bits of a frame: start, op, address, register.
+// The first 14 bits of a frame: start, op, address, register. Start and op are two bits each, whatever they say, and no enums: `header_of`
+// promises them of all bits.
 #[derive(Clone, Copy, Debug, PartialEq, Eq)]
 pub struct Header {
     pub start: u8,
@@ -49,6 +51,20 @@ impl From<u32> for Header {
             op: (bits / 1024 % 4) as u8,
             address: (bits / 32 % 32) as u8,
             register: (bits % 32) as u8,
+        }
+    }
+}
+
+// The header of the frame that sends a transaction.
+impl From<Transaction> for Header {
+    ghost from_gives = { λ transaction header. header ≡ header_for transaction };
+
+    fn from(transaction: Transaction) -> Header {
+        Header {
+            start: Header::OUR_START,
+            op: transaction.op,
+            address: transaction.address,
+            register: transaction.register,
         }
     }
 }

@@ -26,7 +26,7 @@ unfolding answer_of
 returns-then-answers c =
     let t = c.args.transaction in
     let phy = c.args.phy in
-    let header = c.header_for-header.ensures in
+    let header = c.from-header.ensures in
     let answered = sym (c.answers.ensures ∙ ap (λ h. answers h phy.own) header) ∙ c.if-answers.true in
     rw (read_only t phy answered, answered)
     (c.answer.ensures ∙ ap (answer_to t 1) (c.word.ensures ∙ ap (λ h. register_of h.register phy) header))
