@@ -18,26 +18,32 @@ use std::io;
 use std::rt::{Env, Files};
 use verdict::zeroed;
 
-// Board and list have passed, and there is room for every answer: only the events can be refused (`only-events`).
-fn answer(rt: &impl Print, board: Board, list: &[u8], events: &[u8]) -> io::Result<()>
-    requires { Passed board list.now }
-{
+// A board and a list that have passed.
+#[derive(Drop)]
+pub(crate) struct Accepted<'a> {
+    pub(crate) board: Board,
+    pub(crate) list: &'a [u8],
+    ghost passed: { ∥ Passed board list.now ∥₁ },
+}
+
+// There is room for every answer, so that only the events can be refused (`only-events`).
+fn answer(rt: &impl Print, tray: Accepted, events: &[u8]) -> io::Result<()> {
     let mut answers = zeroed::<{ report::ANSWERS }>();
-    match exchange(board, list, events, &mut answers).verdict {
+    match exchange(tray.board, tray.list, events, &mut answers).verdict {
         Ok(size) => report::answers(rt, &answers[..size]),
         Err(refusal) => report::refusal(rt, refusal, "events"),
     }
 }
 
-// The files are checked in the order board, list, events: what is sent has a board and a list that have passed.
-fn bench<S: Fn(Board, &[u8], &[u8]) -> io::Result<()>>(
+// The files are checked in the order board, list, events.
+fn bench<S: Fn(Accepted, &[u8]) -> io::Result<()>>(
     rt: &impl Print,
     board_file: &[u8],
     list: &[u8],
     events: &[u8],
     send: S,
 ) -> io::Result<()>
-    requires { (board : _) (list : _) (events : _) → Passed board list.now → S.pre send board list events }
+    requires { S.IsAlwaysCallable send }
 {
     let loaded = load(board_file);
     if let Err(refusal) = loaded.verdict {
@@ -46,16 +52,20 @@ fn bench<S: Fn(Board, &[u8], &[u8]) -> io::Result<()>>(
     if let Err(refusal) = check_list(list) {
         return report::refusal(rt, refusal, "list");
     }
-    send(loaded.board, list, events)
+    let tray = Accepted {
+        board: loaded.board,
+        list,
+    };
+    send(tray, events)
 }
 
 // Document 01: "The program takes the list on standard input, and `board.rec` and `events.rec` from its directory". What passes
 // is sent as asked: for its answers, or for its waveform.
-fn tray<S: Fn(Board, &[u8], &[u8]) -> io::Result<()>>(
+fn tray<S: Fn(Accepted, &[u8]) -> io::Result<()>>(
     rt: &(impl Files + Input + Print),
     send: S,
 ) -> io::Result<()>
-    requires { (board : _) (list : _) (events : _) → Passed board list.now → S.pre send board list events }
+    requires { S.IsAlwaysCallable send }
 {
     let mut board = zeroed::<{ input::BOARD }>();
     let board = Records {
@@ -91,14 +101,11 @@ fn says(rt: &impl Env, word: &[u8]) -> bool {
 
 fn main(rt: HostRuntime) -> io::Result<()> {
     if !has_argument(&rt, 1) {
-        return tray(&rt, |board, list, events| answer(&rt, board, list, events));
+        return tray(&rt, |tray, events| answer(&rt, tray, events));
     }
     if !has_argument(&rt, 2) {
         if says(&rt, b"vcd") {
-            return tray(
-                &rt,
-                |board, list, events| wave::show(&rt, board, list, events),
-            );
+            return tray(&rt, |tray, events| wave::show(&rt, tray, events));
         }
         if says(&rt, b"listen") {
             return capture::run(&rt);

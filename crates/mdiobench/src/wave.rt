@@ -1,10 +1,9 @@
 // The program for the students' viewers (document 02, E3: "Write a log as such text"). It sends the list over the wire as ever,
 // and where it would print the answers it prints the waveform of the run.
 ghost use Rattle.verdict.specs.Refusal.{said};
-ghost use Rattle.mdiobench.specs.Tray.{Passed};
 ghost use Rattle.mdiobench.specs.Drawing.{Drawn};
 
-use crate::report;
+use crate::{Accepted, report};
 use agreement::{LOG, send};
 use board::Board;
 use std::io;
@@ -20,12 +19,10 @@ fn draw(board: Board, list: &[u8], events: &[u8], text: &mut [u8]) -> Result<usi
     write_vcd(&log[..size], text)
 }
 
-// Board and list have passed, and there is room for every text: only the events can be refused (`only-events-drawn`).
-pub(crate) fn show(rt: &impl Print, board: Board, list: &[u8], events: &[u8]) -> io::Result<()>
-    requires { Passed board list.now }
-{
+// There is room for every text, so that only the events can be refused (`only-events-drawn`).
+pub(crate) fn show(rt: &impl Print, tray: Accepted, events: &[u8]) -> io::Result<()> {
     let mut text = zeroed::<{ Waveform::LONGEST }>();
-    match draw(board, list, events, &mut text) {
+    match draw(tray.board, tray.list, events, &mut text) {
         Ok(size) => rt.write_all(&text[..size]),
         Err(refusal) => report::refusal(rt, refusal, "events"),
     }

@@ -12,7 +12,8 @@ pub struct Abilities {
 }
 
 impl Abilities {
-    // Each speed, in Mb/s.
+    // Each speed, in Mb/s, and each duplex below. They differ in a mask, and each has its name in document 01: one function that takes the
+    // mask would be no plainer where it is called.
     pub fn ten(self) -> bool
         ensures { result ≡ able10 self.status self.extended }
     {
@@ -31,7 +32,6 @@ impl Abilities {
         self.extended & ExtendedStatus::THOUSAND != 0
     }
 
-    // Each duplex.
     pub fn full(self) -> bool
         ensures { result ≡ able_full self.status self.extended }
     {

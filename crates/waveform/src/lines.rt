@@ -41,7 +41,6 @@ pub(crate) fn places(clock: usize) -> usize
 
 // The line of a time, of as many bytes as the clock's number asks for, at the end of the room that is lent for it.
 pub(crate) fn time_line(clock: usize, room: &mut [u8; 6]) -> &[u8]
-    requires { clock < 10000 }
     ensures { result.now ≡ time_line clock }
 {
     *room = [

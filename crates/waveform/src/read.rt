@@ -76,7 +76,6 @@ fn what_follows<'a>(
     clock: usize,
     old: Signals,
 ) -> Result<Option<Shown<'a>>, Refusal>
-    requires { clock < 10000 }
     ensures { IsNext (next_in text.now clock old) result }
 {
     let first = clock == 1;

@@ -74,8 +74,7 @@ impl Output<'_> {
 
     // The line of a time, of four digits at most.
     fn put_time(&mut self, number: usize)
-        requires number_bound { number < 10000 }
-        requires has_room { HasRoom self.old (time_line number) }
+        requires { HasRoom self.old (time_line number) }
         ensures { Puts self.old (time_line number) self.new }
     {
         let mut room = [0; 6];
@@ -95,8 +94,7 @@ impl Output<'_> {
     // The lines of a clock; no line where it shows no signal. The signals are fields, and their order is the text's, so that three
     // calls are plainer than a loop.
     fn put_clock(&mut self, clock: Clock)
-        requires clock_bound { clock.number < 10000 }
-        requires has_room { HasRoom self.old (clock_lines clock.number clock.old clock.new) }
+        requires { HasRoom self.old (clock_lines clock.number clock.old clock.new) }
         ensures { Puts self.old (clock_lines clock.number clock.old clock.new) self.new }
     {
         let shown = clock.shown();
@@ -131,7 +129,8 @@ impl Output<'_> {
     }
 }
 
-// How many bytes the text of a log takes.
+// How many bytes the text of a log takes. Its loop is that of `put_all` and stands beside it: a text that is only measured is not lent, and
+// one loop for both would ask at each line whether to write.
 fn text_size(log: &[u8]) -> usize
     requires { Accepted log.now }
     ensures { result ≡ length (waveform log.now) }

@@ -9,7 +9,7 @@ use Rattle.waveform.specs.declared.write.Output.{Output}
 use Rattle.waveform.specs.Waveform.{header, waveform}
 use Rattle.waveform.specs.Passes.{HasRoom, Puts}
 use Rattle.waveform.proofs.Puts.{room-first, room-second, puts_both}
-use Rattle.waveform.proofs.Writing.{all, behind-header, goes_first, room-here, goes_on, room-closing, goes-to-end, few-clocks}
+use Rattle.waveform.proofs.Writing.{all, behind-header, goes_first, room-here, goes_on, room-closing, goes-to-end}
 use Rattle.waveform.proofs.write.Output.put_all.Goals as goal
 
 -- the whole text has room, and so has what stands behind the header
@@ -30,11 +30,8 @@ put-requires c = rw c.header.ensures (room-first c.args.self.now header (all c.a
 pub loop-i-init : goal.loop-i-init
 loop-i-init c = rw c.from-old.ensures (goes_first c.args.log.now _)
 
-pub put_clock-requires-clause-clock_bound : goal.put_clock-requires-clause-clock_bound
-put_clock-requires-clause-clock_bound c = omega (arith, c.loop-i-test.true, few-clocks c.args.log.now c.requires.accepted)
-
-pub put_clock-requires-clause-has_room : goal.put_clock-requires-clause-has_room
-put_clock-requires-clause-has_room c =
+pub put_clock-requires : goal.put_clock-requires
+put_clock-requires c =
     rw c.from-new.ensures
     (room-here _ _ (room c.args.log.now c.args.self.now c.requires.has_room _ c.header.ensures _ c.put.ensures) c.loop-i.invariant c.loop-i-test.true)
 
@@ -43,11 +40,8 @@ loop-i-preserved c =
     rw c.from-new.ensures
     (goes_on _ _ (room c.args.log.now c.args.self.now c.requires.has_room _ c.header.ensures _ c.put.ensures) c.loop-i.invariant c.loop-i-test.true (rw c.from-new.ensures at c.put_clock.ensures))
 
-pub put_time-requires-clause-number_bound : goal.put_time-requires-clause-number_bound
-put_time-requires-clause-number_bound c = omega (arith, few-clocks c.args.log.now c.requires.accepted)
-
-pub put_time-requires-clause-has_room : goal.put_time-requires-clause-has_room
-put_time-requires-clause-has_room c =
+pub put_time-requires : goal.put_time-requires
+put_time-requires c =
     let end : c.loop-i.i ≡ records log_record c.args.log.now = omega (arith, c.loop-i.invariant.within, c.loop-i-test.false) in
     room-closing _ _ (room c.args.log.now c.args.self.now c.requires.has_room _ c.header.ensures _ c.put.ensures) c.loop-i.invariant end
 

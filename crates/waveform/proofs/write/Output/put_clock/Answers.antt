@@ -46,27 +46,27 @@ module _ (out : Output) (clock : ℕ) (old new shown : Signals) (has_room : HasR
           (puts_both {out = out} (time_line clock) (level ++ (enable ++ contention)) room timed
           (puts_both {out = out₁} level (enable ++ contention) values-room leveled (puts_both {out = out₂} enable contention later-room enabled last)))
 
-pub put_time-requires-clause-has_room : goal.put_time-requires-clause-has_room
-put_time-requires-clause-has_room c =
-    room-first c.args.self.now _ _ (room c.args.self.now c.args.clock.number c.args.clock.old _ _ c.requires.has_room c.shown-shown.ensures _ c.any.ensures c.if-any.true)
+pub put_time-requires : goal.put_time-requires
+put_time-requires c =
+    room-first c.args.self.now _ _ (room c.args.self.now c.args.clock.number c.args.clock.old _ _ c.requires c.shown-shown.ensures _ c.any.ensures c.if-any.true)
 
 pub put_value-requires : goal.put_value-requires
 put_value-requires c =
-    room-first c.put_time.new.self _ _ (values-room c.args.self.now c.args.clock.number c.args.clock.old _ _ c.requires.has_room c.shown-shown.ensures _ c.any.ensures c.if-any.true _ c.put_time.ensures)
+    room-first c.put_time.new.self _ _ (values-room c.args.self.now c.args.clock.number c.args.clock.old _ _ c.requires c.shown-shown.ensures _ c.any.ensures c.if-any.true _ c.put_time.ensures)
 
 pub put_value-requires-then-any : goal.put_value-requires-then-any
 put_value-requires-then-any c =
-    room-first c.put_value.new.self _ _ (later-room c.args.self.now c.args.clock.number c.args.clock.old _ _ c.requires.has_room c.shown-shown.ensures _ c.any.ensures c.if-any.true _ c.put_time.ensures _ c.put_value.ensures)
+    room-first c.put_value.new.self _ _ (later-room c.args.self.now c.args.clock.number c.args.clock.old _ _ c.requires c.shown-shown.ensures _ c.any.ensures c.if-any.true _ c.put_time.ensures _ c.put_value.ensures)
 
 pub put_value-requires-then-any-2 : goal.put_value-requires-then-any-2
 put_value-requires-then-any-2 c =
     room-second {out = c.put_value.new.self} _ _
-    (later-room c.args.self.now c.args.clock.number c.args.clock.old _ _ c.requires.has_room c.shown-shown.ensures _ c.any.ensures c.if-any.true _ c.put_time.ensures _ c.put_value.ensures)
+    (later-room c.args.self.now c.args.clock.number c.args.clock.old _ _ c.requires c.shown-shown.ensures _ c.any.ensures c.if-any.true _ c.put_time.ensures _ c.put_value.ensures)
     c.put_value-then-any.ensures
 
 pub returns-then-any : goal.returns-then-any
 returns-then-any c =
-    all c.args.self.now c.args.clock.number c.args.clock.old _ _ c.requires.has_room c.shown-shown.ensures _ c.any.ensures c.if-any.true _ c.put_time.ensures _ c.put_value.ensures _ _ c.put_value-then-any.ensures c.put_value-then-any-2.ensures
+    all c.args.self.now c.args.clock.number c.args.clock.old _ _ c.requires c.shown-shown.ensures _ c.any.ensures c.if-any.true _ c.put_time.ensures _ c.put_value.ensures _ _ c.put_value-then-any.ensures c.put_value-then-any-2.ensures
 
 pub returns-else-any : goal.returns-else-any
 returns-else-any c =
