@@ -1,6 +1,5 @@
 // The events between clocks, in file order (document 01, "Records": "Clock c means after clock c and before c+1"). A machine
-// lets each record that is due act on the PHY where it stands: a board that went into and out of a call for each event would
-// be copied four times.
+// lets each record that is due act on its PHY.
 ghost use Rattle.std.specs.Prelude.{◌≡◌};
 ghost use Rattle.between.specs.Happened.{is_due};
 

@@ -20,7 +20,8 @@ pub fn owns_of(board: Board) -> [Own; 32]
     owns
 }
 
-// The place of the PHY that has an address, where one has it.
+// The place of the PHY that has an address, where one has it. Beside the next one it looks needless: they part as soon as a PHY takes
+// frames to another address than its own (document 02, E5).
 pub fn place_of(owns: &[Own], address: u8) -> Option<usize>
     ensures { result ≡ found_at (place_of owns.now address) owns.now }
 {

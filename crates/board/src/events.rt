@@ -21,7 +21,8 @@ fn byte_of(events: &[u8], k: usize, offset: usize) -> u8
     verdict::byte_at(events, k * Board::EVENT_RECORD + offset)
 }
 
-// The clock, the address and the code of the event record at index k.
+// The clock, the address and the code of the event record at index k. File and index stay two: a struct of them would be made anew for each
+// record.
 pub fn clock_of(events: &[u8], k: usize) -> u16
     ensures { result ≡ event_clock events.now k }
 {
@@ -40,8 +41,8 @@ pub fn code_of(events: &[u8], k: usize) -> u8
     byte_of(events, k, 3)
 }
 
-// The address at each place: a few bytes to look through in place of a whole board. The board is read and not lent: a loan of it
-// was tried, and holds a second board.
+// The address at each place: a few bytes to look through in place of a whole board. The board is passed and not lent: lending it to a
+// closure was tried, and cost the stack of a second board.
 #[tactic(auto, unfolding(verdict::specs::Output::tabulate))]
 fn addresses_of(board: Board) -> [u8; 32]
     ensures { result ≡ addresses_of board.phys }
@@ -66,7 +67,7 @@ fn table_of(addresses: &[u8]) -> [bool; 256]
 }
 
 // Checks 8 and 9 of the event record at index k, where `there` is whether its address is on the board and `before` the clock of
-// the record before it. A good record's event comes after this clock.
+// the record before it. A good record's event comes after this clock. `|` asks both sides and makes no branch.
 fn judge_event(there: bool, events: &[u8], last: usize, k: usize, before: u16) -> Result<u16, Fault>
     requires { before ≡ clock_before events.now k }
     ensures { judged result ≡ judged_by (event_fault_as there events.now last k) (event_clock events.now k) }

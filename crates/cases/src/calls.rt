@@ -14,7 +14,7 @@
 //
 // Where an output has fewer bytes, nothing is called.
 use crate::desk::Desk;
-use crate::script::Word;
+use crate::script::{UnknownLetter, Word};
 use board::{check, check_events, load};
 use frame::{decode, log_part, translate};
 use listener::listen;
@@ -38,21 +38,23 @@ pub(crate) enum Call {
     Plain,
 }
 
-impl Call {
-    pub(crate) fn of(letter: u8) -> Option<Call> {
+impl TryFrom<u8> for Call {
+    type Error = UnknownLetter;
+
+    fn try_from(letter: u8) -> Result<Call, UnknownLetter> {
         match letter {
-            b'T' => Some(Call::Translate),
-            b'D' => Some(Call::Decode),
-            b'B' => Some(Call::Back),
-            b'M' => Some(Call::Measure),
-            b'V' => Some(Call::Vcd),
-            b'I' => Some(Call::Interpret),
-            b'L' => Some(Call::Load),
-            b'C' => Some(Call::Check),
-            b'E' => Some(Call::Events),
-            b'R' => Some(Call::Run),
-            b'P' => Some(Call::Plain),
-            _ => None,
+            b'T' => Ok(Call::Translate),
+            b'D' => Ok(Call::Decode),
+            b'B' => Ok(Call::Back),
+            b'M' => Ok(Call::Measure),
+            b'V' => Ok(Call::Vcd),
+            b'I' => Ok(Call::Interpret),
+            b'L' => Ok(Call::Load),
+            b'C' => Ok(Call::Check),
+            b'E' => Ok(Call::Events),
+            b'R' => Ok(Call::Run),
+            b'P' => Ok(Call::Plain),
+            _ => Err(UnknownLetter),
         }
     }
 }

@@ -12,7 +12,7 @@
 //     within P N V        it is inside a frame with N bits seen, V
 //     captured P V        its captured word
 use crate::desk::Desk;
-use crate::script::Word;
+use crate::script::{UnknownLetter, Word};
 use board::Board;
 use phy::Phy;
 use wire::Follower;
@@ -32,21 +32,23 @@ pub(crate) enum Change {
     Captured,
 }
 
-impl Change {
-    pub(crate) fn of(letter: u8) -> Option<Change> {
+impl TryFrom<u8> for Change {
+    type Error = UnknownLetter;
+
+    fn try_from(letter: u8) -> Result<Change, UnknownLetter> {
         match letter {
-            b'p' => Some(Change::Phys),
-            b'n' => Some(Change::Number),
-            b'a' => Some(Change::Address),
-            b'i' => Some(Change::Implemented),
-            b'd' => Some(Change::Default),
-            b'm' => Some(Change::Mask),
-            b'r' => Some(Change::Register),
-            b'u' => Some(Change::Up),
-            b'h' => Some(Change::Hunting),
-            b'w' => Some(Change::Within),
-            b'c' => Some(Change::Captured),
-            _ => None,
+            b'p' => Ok(Change::Phys),
+            b'n' => Ok(Change::Number),
+            b'a' => Ok(Change::Address),
+            b'i' => Ok(Change::Implemented),
+            b'd' => Ok(Change::Default),
+            b'm' => Ok(Change::Mask),
+            b'r' => Ok(Change::Register),
+            b'u' => Ok(Change::Up),
+            b'h' => Ok(Change::Hunting),
+            b'w' => Ok(Change::Within),
+            b'c' => Ok(Change::Captured),
+            _ => Err(UnknownLetter),
         }
     }
 }
@@ -61,17 +63,17 @@ fn loaded(file: &[u8], n: u32) -> Board {
 fn changed(mut phy: Phy, change: Change, word: Word) -> Phy {
     let r = (word.b % 32) as usize;
     let value = (word.c % 0x1_0000) as u16;
-    let few = (word.b % 256) as u8;
+    let byte = (word.b % 256) as u8;
     match change {
         Change::Phys | Change::Number => {}
-        Change::Address => phy.own.address = few,
+        Change::Address => phy.own.address = byte,
         Change::Implemented => phy.own.implemented = word.b,
         Change::Default => phy.defaults[r] = value,
         Change::Mask => phy.masks[r] = value,
         Change::Register => phy.registers[r] = value,
         Change::Up => phy.link = word.b == 1,
-        Change::Hunting => phy.follower = Follower::Hunting(few),
-        Change::Within => phy.follower = Follower::Inside(few, word.c),
+        Change::Hunting => phy.follower = Follower::Hunting(byte),
+        Change::Within => phy.follower = Follower::Inside(byte, word.c),
         Change::Captured => phy.captured = (word.b % 0x1_0000) as u16,
     }
     phy

@@ -82,34 +82,27 @@ fn unwritten<const N: usize>() -> [u8; N] {
 
 impl Desk {
     pub(crate) fn fresh() -> Desk {
-        let file = file();
-        let list = list();
-        let events = events();
-        let steps = unwritten::<STEPS>();
-        let log = unwritten::<LOG>();
-        let answers = unwritten::<ANSWERS>();
-        let text = unwritten::<TEXT>();
         Desk {
             board: board::load(b"").board,
-            file,
-            list,
-            events,
-            steps,
-            log,
-            answers,
-            text,
+            file: file(),
+            list: list(),
+            events: events(),
+            steps: unwritten(),
+            log: unwritten(),
+            answers: unwritten(),
+            text: unwritten(),
         }
     }
 
     // What a word of a case does. A misspelt one shows as a question mark.
     pub(crate) fn obey(&mut self, rt: &impl Print, word: Word) -> io::Result<()> {
-        if let Some(write) = Write::of(word.letter) {
+        if let Ok(write) = Write::try_from(word.letter) {
             self.write(write, word);
-        } else if let Some(change) = Change::of(word.letter) {
+        } else if let Ok(change) = Change::try_from(word.letter) {
             self.change(change, word);
-        } else if let Some(call) = Call::of(word.letter) {
+        } else if let Ok(call) = Call::try_from(word.letter) {
             self.call(rt, call, word)?;
-        } else if let Some(show) = Show::of(word.letter) {
+        } else if let Ok(show) = Show::try_from(word.letter) {
             self.show(rt, show, word)?;
         } else {
             rt.write_all(b" ?")?;

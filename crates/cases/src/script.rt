@@ -11,6 +11,10 @@ pub(crate) struct Word {
     pub(crate) c: u32,
 }
 
+// No word of a module begins with this letter.
+#[derive(Clone, Copy)]
+pub(crate) struct UnknownLetter;
+
 // What stands from the first byte on that is not passed over.
 fn past<F: Fn(u8) -> bool>(text: &[u8], over: F) -> &[u8]
     requires { F.IsAlwaysCallable over }

@@ -9,7 +9,7 @@
 //     Flag I       byte I of the log
 //     Output I     byte I of the text
 use crate::desk::Desk;
-use crate::script::Word;
+use crate::script::{UnknownLetter, Word};
 use frame::{Answer, Frame};
 use std::io;
 use verdict::{byte_at, word_at};
@@ -26,18 +26,20 @@ pub(crate) enum Show {
     Output,
 }
 
-impl Show {
-    pub(crate) fn of(letter: u8) -> Option<Show> {
+impl TryFrom<u8> for Show {
+    type Error = UnknownLetter;
+
+    fn try_from(letter: u8) -> Result<Show, UnknownLetter> {
         match letter {
-            b',' => Some(Show::Comma),
-            b'A' => Some(Show::Answer),
-            b'H' => Some(Show::Heard),
-            b'W' => Some(Show::Word),
-            b'S' => Some(Show::Step),
-            b'G' => Some(Show::Given),
-            b'F' => Some(Show::Flag),
-            b'O' => Some(Show::Output),
-            _ => None,
+            b',' => Ok(Show::Comma),
+            b'A' => Ok(Show::Answer),
+            b'H' => Ok(Show::Heard),
+            b'W' => Ok(Show::Word),
+            b'S' => Ok(Show::Step),
+            b'G' => Ok(Show::Given),
+            b'F' => Ok(Show::Flag),
+            b'O' => Ok(Show::Output),
+            _ => Err(UnknownLetter),
         }
     }
 }

@@ -9,7 +9,7 @@
 ghost use Rattle.std.specs.Prelude.{◌<◌};
 
 use crate::desk::Desk;
-use crate::script::Word;
+use crate::script::{UnknownLetter, Word};
 use board::Board;
 use frame::{Frame, Transaction};
 
@@ -23,16 +23,18 @@ pub(crate) enum Write {
     Turn,
 }
 
-impl Write {
-    pub(crate) fn of(letter: u8) -> Option<Write> {
+impl TryFrom<u8> for Write {
+    type Error = UnknownLetter;
+
+    fn try_from(letter: u8) -> Result<Write, UnknownLetter> {
         match letter {
-            b'f' => Some(Write::File),
-            b'l' => Some(Write::List),
-            b'e' => Some(Write::Event),
-            b'o' => Some(Write::Occurs),
-            b's' => Some(Write::Steps),
-            b't' => Some(Write::Turn),
-            _ => None,
+            b'f' => Ok(Write::File),
+            b'l' => Ok(Write::List),
+            b'e' => Ok(Write::Event),
+            b'o' => Ok(Write::Occurs),
+            b's' => Ok(Write::Steps),
+            b't' => Ok(Write::Turn),
+            _ => Err(UnknownLetter),
         }
     }
 }

@@ -30,7 +30,8 @@ pub extern "C" fn taksherub_translate(list: &[u8], steps: &mut [u8]) -> u64
     code(translate(list, steps))
 }
 
-// This one and `taksherub_plain` are alike but for the machine: C calls each by its name.
+// This one and `taksherub_plain` are alike but for the machine: C calls each by its name, and a closure for the machine's call would be no
+// shorter than the call.
 #[unsafe(no_mangle)]
 pub extern "C" fn taksherub_run(board: &[u8], steps: &[u8], events: &[u8], log: &mut [u8]) -> u64
     ensures { OpensRun board.now steps.now events.now log.old result log.new }

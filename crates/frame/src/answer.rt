@@ -49,7 +49,8 @@ impl Answer {
     }
 }
 
-// The level at a clock of a transaction's part, from 1; past the part's end it reads 0.
+// The level at a clock of a transaction's part, from 1; past the part's end it reads 0. It is a number and no bool: `level_at` promises it,
+// and a word is made of such numbers.
 #[tactic(auto, unfolding(crate::specs::Log::level_at))]
 fn level(part: &[u8], clock: usize) -> u8
     requires { (1 ≤ clock) × (clock ≤ 65) }

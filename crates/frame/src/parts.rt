@@ -25,7 +25,8 @@ pub(crate) fn put_each<F: Fn(Transaction, usize, &mut [u8])>(
         return Err(Fault::NoRoom.at(0));
     }
     for k in 0..count {
-        // The list's check came first, so no record is bad here, and a refusal has written nothing.
+        // Taken apart by `let .. else`, a rule of document 01. The list's check came first, so no record is bad here, and a refusal has written
+        // nothing.
         let record = parsed_at(list, k);
         let Ok(transaction) = record else {
             return Err(record.unwrap_err().at(k));

@@ -40,7 +40,7 @@ fn transaction_in(frame: u32) -> Transaction
     }
 }
 
-// What is learned of its turnaround.
+// What is learned of its turnaround. Not a `From` either: `Turnaround` is another crate's.
 fn turnaround_in(frame: u32) -> Turnaround
     ensures { result ≡ turnaround_in frame }
 {
@@ -122,6 +122,7 @@ pub fn listen(levels: &[u8], answers: &mut [u8]) -> Result<usize, Refusal>
     {
         return Err(Fault::NoRoom.at(0));
     }
+    // Where the next record goes, and in the end how much was written.
     let mut done = 0;
     for answer in (Listener { levels }).filter_map(given_by_frame) {
         let end = done + Answer::BYTES;

@@ -13,8 +13,8 @@ use frame::{Answer, Frame, check_list};
 use verdict::{Fault, Refusal};
 
 // The checks of a list without a wire, in order, where the output has this many bytes. Ok says how many of them the answers take. A run's
-// (`check_run`) go in the same order, but what is asked, the last clock and the size differ in each line: as one function that takes all
-// three they would be no plainer.
+// checks go in the same order, but what is asked, the last clock and the size differ in each line: as one function that takes all three they
+// would be no plainer.
 // List and events stay two parameters, as the C interface has them: a struct of both would be made only to be taken apart in each call.
 fn check_plan(board: Board, list: &[u8], events: &[u8], room: usize) -> Result<usize, Refusal>
     ensures { (answers : List ℕ) → length answers ≡ room → said result ≡ planning board list.now events.now answers }

@@ -94,8 +94,7 @@ pub fn check_bytes(file: &[u8], most: usize, largest: u8, fault: Fault) -> Resul
     Ok(count)
 }
 
-// Room for an output: zeros. What stands in it is told by a word that nobody needs to look into, so that a buffer of some thousand
-// bytes is one word in a proof.
+// Room for an output: zeros. A buffer of some thousand bytes is then one word of a proof, `zeros`, and not a list.
 #[tactic(auto, unfolding(crate::specs::Output::zeros))]
 pub fn zeroed<const N: usize>() -> [u8; N]
     ensures long { N ≡ length result }

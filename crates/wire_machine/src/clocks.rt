@@ -22,8 +22,8 @@ fn check_steps(steps: &[u8]) -> Result<usize, Refusal>
 }
 
 // All clocks of a run that is not refused. A turn is an event that is due, which acts on its PHY where that stands, or else a
-// clock. Where the followers of all PHYs are alike a clock moves the common one; else it goes over the lines. A whole PHY is
-// touched only where it may act or has an event, and an event leaves its line.
+// clock. Where the followers of all PHYs are alike and none acts, a clock moves the common one; else it goes over the lines. A whole
+// PHY is touched only where it may act or has an event, and an event changes nothing in its line.
 fn clock_by_clock(board: &mut Board, steps: &[u8], events: &[u8], log: &mut [u8])
     requires { running board.old steps.now events.now log.old ≡ Done (length steps.now * log_record) }
     ensures { Clocked board.old steps.now events.now log.old board.new log.new }
@@ -33,7 +33,8 @@ fn clock_by_clock(board: &mut Board, steps: &[u8], events: &[u8], log: &mut [u8]
     let mut common = Common::APART;
     let mut next: usize = 0;
     let mut c: usize = 0;
-    // Not a `for` over the steps: the loop over events would then stand a second time, behind the last clock.
+    // A turn counts up one of the two. A `for` over the clocks would need a loop over the events inside it that counts by hand all the
+    // same, and would have to go once past the last step.
     loop {
         if is_due(events, next, c) {
             if let Some(i) = place_in(lines, address_of(events, next)) {
@@ -69,7 +70,7 @@ fn clock_by_clock(board: &mut Board, steps: &[u8], events: &[u8], log: &mut [u8]
     }
 }
 
-// The checks of a run, in order, where the log has this many bytes. Ok says how many of them the run writes.
+// The checks of a run, in order, where the log has this many bytes. The plain machine's go in the same order, each with another number. Ok says how many of them the run writes.
 fn check_run(board: Board, steps: &[u8], events: &[u8], room: usize) -> Result<usize, Refusal>
     ensures { (log : List ℕ) → length log ≡ room → said result ≡ running board steps.now events.now log }
 {

@@ -14,7 +14,7 @@ pub(crate) struct Common {
     follower: Option<Follower>,
 }
 
-// Whether a header of ours asks a PHY to read.
+// Whether a header of ours asks a PHY to read. Here and below `&` and `|` ask both sides and make no branch.
 fn asks_to_read(header: Header) -> bool
     ensures { result ≡ asks_to_read header }
 {

@@ -21,7 +21,7 @@ pub(crate) struct Heard {
     mask: u32,
 }
 
-// What the station does in a step.
+// What the station does in a step. No `From`: a step is a byte, and `Drive` another crate's.
 pub(crate) fn station_drive(step: u8) -> Drive
     ensures { result ≡ station_drive step }
 {
