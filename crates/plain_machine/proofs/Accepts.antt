@@ -1,13 +1,16 @@
 -- What is known of a list that the plain machine does not refuse.
 use Prim.Native.Nat.{ℕ, ◌*◌, ◌≤◌, ◌<◌}
-use mathlib.Core.Path.{◌≡◌, ap, ◌∙◌}
+use mathlib.Core.Path.{◌≡◌, sym, ap, ◌∙◌}
 use mathlib.Core.Bool.{Bool, true, false}
 use mathlib.Core.List.{List}
 use native.Mathlib.Omega.{arith}
 use lib.Dec.{ltb}
 use lib.ListN.{length}
 use lib.Seq.{length-take-le}
-use Rattle.verdict.specs.Refusal.{Done, Good, Bad, wrong_op, no_room, ◌when◌, refuse}
+use Rattle.std.specs.Prelude.{Result, Ok, Err}
+use Rattle.std.specs.Result.{is_ok}
+use Rattle.verdict.specs.declared.Refusal.{Refusal}
+use Rattle.verdict.specs.Refusal.{Done, Good, Bad, said, wrong_op, no_room, ◌when◌, refuse}
 use Rattle.verdict.specs.File.{records}
 use Rattle.verdict.specs.Output.{room_for}
 use Rattle.verdict.proofs.Checks.{accepted, done-by}
@@ -78,3 +81,8 @@ planned-size board list events out m e =
     let on-events = done-by (events_verdict board events (on_List.count * clocks)) _ on_List.rest in
     let listed = accepted-list list on_List.count on_List.passes in
     room-says out (on_List.count * answer_record) m on-events.rest ∙ ap (λ n. n * answer_record) listed.count
+
+-- checks that pass say that a list is done
+pub planned-passed : (board : Board) (list events out : List ℕ) (verdict : Result ℕ Refusal) → is_ok verdict ≡ true → said verdict ≡ planning board list events out → planning board list events out ≡ Done (records list_record list * answer_record)
+planned-passed board list events out (Ok m) ok says = sym says ∙ ap Done (planned-size board list events out m (sym says))
+planned-passed board list events out (Err refusal) ok says = absurd (let z : ◌≡◌ {A = ℕ} 0 1 = cc in omega arith)

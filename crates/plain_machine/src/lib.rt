@@ -30,13 +30,12 @@ fn check_plan(board: Board, list: &[u8], events: &[u8], room: usize) -> Result<u
 }
 
 // Writes the answers to a list to the start of `answers`, and hands the board back as the list and the events leave it.
-pub fn plain(board: Board, list: &[u8], events: &[u8], answers: &mut [u8]) -> Outcome
+pub fn plain(mut board: Board, list: &[u8], events: &[u8], answers: &mut [u8]) -> Outcome
     ensures { Planned board list.now events.now answers.old (told result) answers.new }
 {
     let verdict = check_plan(board, list, events, answers.len());
-    let Ok(_) = verdict else {
-        return Outcome::of(verdict, board);
-    };
-    let after = transact::transact_all(board, list, events, answers);
-    Outcome::of(verdict, after)
+    if verdict.is_ok() {
+        transact::transact_all(&mut board, list, events, answers);
+    }
+    Outcome { verdict, board }
 }

@@ -68,16 +68,11 @@ fn answer_of(phy: Phy, transaction: Transaction) -> Answer
 // All transactions of a list that is not refused. A turn is an event that is due before the next transaction acts, or else
 // that act; each changes the one PHY that it is for where that stands, and no board goes into or out of a call. Past the last
 // record all events that are left have happened.
-pub(crate) fn transact_all(
-    mut board: Board,
-    list: &[u8],
-    events: &[u8],
-    answers: &mut [u8],
-) -> Board
-    requires { planning board list.now events.now answers.old ≡ Done (records list_record list.now * answer_record) }
-    ensures { Transacted board list.now events.now answers.old result answers.new }
+pub(crate) fn transact_all(board: &mut Board, list: &[u8], events: &[u8], answers: &mut [u8])
+    requires { planning board.old list.now events.now answers.old ≡ Done (records list_record list.now * answer_record) }
+    ensures { Transacted board.old list.now events.now answers.old board.new answers.new }
 {
-    let places = owns_of(board);
+    let places = owns_of(*board);
     let owns = &places[..board.count];
     // A turn counts up one of the two; a `for` over transactions would need a loop over their events inside it, and one more behind it.
     let mut next: usize = 0;
@@ -93,7 +88,7 @@ pub(crate) fn transact_all(
             continue;
         }
         let Ok(transaction) = parsed else {
-            return board;
+            return;
         };
         let answer = if let Some(i) = taker_of(owns, transaction.address) {
             let answer = answer_of(board.phys[i], transaction);

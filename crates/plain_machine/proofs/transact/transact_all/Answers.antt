@@ -4,6 +4,7 @@ use mathlib.Core.Path.{◌≡◌, refl, sym, ap, ap₂, subst, ◌∙◌}
 use mathlib.Core.Bool.{true, false}
 use mathlib.Core.List.{List, [], ◌∷◌, map}
 use native.Mathlib.Omega.{arith}
+use borrow.Author.Rules.{rules}
 use native.Mathlib.Decide.{ℕ_discrete}
 use lib.ListN.{length, length-map, get_or, set, take}
 use borrow.Rule.Slice.PartMut.{put_mid}
@@ -54,15 +55,17 @@ short-lead (Good t) is = omega (arith, few-before t)
 short-lead (Bad c) is = omega arith
 
 -- the list is not refused
-known : (c : After-owns_of-places) → Goes c.args.board c.args.list.now c.args.events.now c.args.answers.now
-known c = let long : length c.args.board.phys ≡ 32 = omega (arith, c.well_formed) in goes _ _ _ _ _ long c.requires
+known : (c : After-owns_of-places) → Goes c.args.board.now c.args.list.now c.args.events.now c.args.answers.now
+known c =
+    let places : length c.owns_of-places.result ≡ 32 = search rules in
+    goes _ _ _ _ _ (sym (length-map c.args.board.now.phys (λ (phy : Phy). phy.own)) ∙ ap length (sym c.owns_of-places.ensures) ∙ places) c.requires
 
 -- who frames are for
-owns-are : (c : After-owns_of-places) → take c.args.board.count c.owns_of-places.result ≡ owns_of (phys_of c.args.board)
-owns-are c = ap (take c.args.board.count) c.owns_of-places.ensures ∙ take-map (λ (phy : Phy). phy.own) c.args.board.count c.args.board.phys
+owns-are : (c : After-owns_of-places) → take c.args.board.now.count c.owns_of-places.result ≡ owns_of (phys_of c.args.board.now)
+owns-are c = ap (take c.args.board.now.count) c.owns_of-places.ensures ∙ take-map (λ (phy : Phy). phy.own) c.args.board.now.count c.args.board.now.phys
 
-owns-full : (c : After-owns_of-places) → length (owns_of (phys_of c.args.board)) ≡ c.args.board.count
-owns-full c = length-map (phys_of c.args.board) (λ (phy : Phy). phy.own) ∙ (known c).full
+owns-full : (c : After-owns_of-places) → length (owns_of (phys_of c.args.board.now)) ≡ c.args.board.now.count
+owns-full c = length-map (phys_of c.args.board.now) (λ (phy : Phy). phy.own) ∙ (known c).full
 
 module _ (c : At-loop-parsed) where
   abbrev list : List ℕ
@@ -75,7 +78,7 @@ module _ (c : At-loop-parsed) where
   out = c.args.answers.now
 
   abbrev board : Board
-  board = c.args.board
+  board = c.args.board.now
 
   abbrev start : After-owns_of-places
   start = (goal.at.At-loop-parsed c).After-owns_of-places
@@ -214,7 +217,7 @@ module _ (c : After-taker_of) (missing : c.taker_of.result ≡ None) where
 
 pub slice_bounds-places-end : goal.slice_bounds-places-end
 slice_bounds-places-end c =
-    let places = ap length c.owns_of-places.ensures ∙ length-map c.args.board.phys (λ (phy : Phy). phy.own) in
+    let places = ap length c.owns_of-places.ensures ∙ length-map c.args.board.now.phys (λ (phy : Phy). phy.own) in
     omega (arith, places, (known c).sound.at_most, c.well_formed)
 
 pub slice_bounds-owns-end : goal.slice_bounds-owns-end
