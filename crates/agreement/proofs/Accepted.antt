@@ -6,8 +6,7 @@ use native.Mathlib.Omega.{arith}
 use lib.Dec.{eqb, ltb}
 use borrow.Author.Tests.{ltb-false, eqb-true, not-false}
 use mathlib.Core.List.{List}
-use Rattle.verdict.specs.Refusal.{Done}
-use Rattle.verdict.specs.Refusal.{◌when◌, ◌else◌}
+use Rattle.verdict.specs.Refusal.{Done, ◌when◌, ◌else◌}
 use Rattle.verdict.specs.File.{byte_at, records}
 use Rattle.verdict.specs.Lists.{All}
 use Rattle.verdict.proofs.Lists.{all-tabulate}

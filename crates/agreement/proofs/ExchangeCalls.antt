@@ -7,9 +7,7 @@ use native.Mathlib.Omega.{arith}
 use lib.ListN.{length, take, drop, replicate, length-append}
 use lib.Seq.{take_at}
 use borrow.Author.Tests.{le-ltb, eq-eqb}
-use Rattle.verdict.specs.Refusal.{Verdict}
-use Rattle.verdict.specs.Refusal.{Done, Refused}
-use Rattle.verdict.specs.Refusal.{wrong_step, and_then}
+use Rattle.verdict.specs.Refusal.{Verdict, Done, Refused, wrong_step, and_then}
 use Rattle.verdict.specs.Bits.{bits}
 use Rattle.verdict.specs.File.{byte_fault}
 use Rattle.verdict.specs.Lists.{All}

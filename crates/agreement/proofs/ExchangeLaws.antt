@@ -4,8 +4,7 @@ use mathlib.Core.Path.{◌≡◌, refl, ap, sym, subst, ◌∙◌}
 use mathlib.Core.List.{List, [], ◌∷◌, ◌++◌, map, map-append}
 use lib.ListN.{length, drop, length-map}
 use lib.Seq.{take_at}
-use Rattle.verdict.specs.Refusal.{Verdict}
-use Rattle.verdict.specs.Refusal.{Done, Refused}
+use Rattle.verdict.specs.Refusal.{Verdict, Done, Refused}
 use Rattle.verdict.specs.File.{byte_at}
 use Rattle.verdict.specs.Lists.{All}
 use Rattle.verdict.specs.Output.{tabulate, join, written, output_after}
@@ -25,11 +24,12 @@ use Rattle.board.specs.Check.{checked}
 use Rattle.board.specs.Typed.{TypedBoard}
 use Rattle.board.proofs.LoadSound.{load-sound}
 use Rattle.board.proofs.LoadTyped.{load_typed}
-use Rattle.board.specs.Outcome.{Told}
+use Rattle.board.specs.declared.Outcome.{Outcome}
+use Rattle.board.specs.Outcome.{Told, told}
 use Rattle.between.specs.Outcome.{phys_of, with_phys, handed_back}
 use Rattle.wire_machine.specs.Run.{phys_after_run}
 use Rattle.plain_machine.specs.Plain.{planning, answers_of_plain, phys_after_plain, board_after_plain, Planned}
-use Rattle.between.proofs.Laws.{hands-back-unique}
+use Rattle.between.proofs.Laws.{outcome-unique}
 use Rattle.between.proofs.Places.{phys-of-with}
 use Rattle.machines.proofs.SoundBoards.{SoundBoard, handed-back-sound, run_sound}
 use Rattle.agreement.specs.Demand3.{Hunts, Demand3, registers_of, links_of, followers_of, ends_hunting}
@@ -37,12 +37,12 @@ use Rattle.agreement.specs.Exchange.{board_after_exchange, Sent, answers_of_exch
 use Rattle.agreement.proofs.Demand3.{demand-3}
 
 -- two results that meet the promise of `send` are equal, as are the logs
-pub send-unique : (board : Board) (list events out : List ℕ) {r s : Told} {out₁ out₂ : List ℕ} → Sent board list events out r out₁ → Sent board list events out s out₂ → (r ≡ s) × (out₁ ≡ out₂)
-send-unique board list events out p q = hands-back-unique p q
+pub send-unique : (board : Board) (list events out : List ℕ) {r s : Outcome} {out₁ out₂ : List ℕ} → Sent board list events out (told r) out₁ → Sent board list events out (told s) out₂ → (r ≡ s) × (out₁ ≡ out₂)
+send-unique board list events out p q = outcome-unique p q
 
 -- two results that meet the promise of `exchange` are equal, as are the answers
-pub exchange-unique : (board : Board) (list events out : List ℕ) {r s : Told} {out₁ out₂ : List ℕ} → Exchanged board list events out r out₁ → Exchanged board list events out s out₂ → (r ≡ s) × (out₁ ≡ out₂)
-exchange-unique board list events out p q = hands-back-unique p q
+pub exchange-unique : (board : Board) (list events out : List ℕ) {r s : Outcome} {out₁ out₂ : List ℕ} → Exchanged board list events out (told r) out₁ → Exchanged board list events out (told s) out₂ → (r ≡ s) × (out₁ ≡ out₂)
+exchange-unique board list events out p q = outcome-unique p q
 
 -- a field that two rows of PHYs have alike, they have alike in their places
 same-places : {A : Type 0} (field : Phy → A) (board : Board) (phys others : List Phy) → map field phys ≡ map field others → map field (with_phys board phys).phys ≡ map field (with_phys board others).phys

@@ -1,8 +1,6 @@
 -- The calls `send` and `exchange`: a list goes over the wire. `send` gives the log of the run of the translated steps, and `exchange` the answers that the decoder hears in it; the board is what that run leaves. They are refused where the plain machine refuses. They take any sound board: where a PHY is inside a frame the run's first clocks end that frame, and the wire decides.
 use Rattle.std.specs.Prelude.{ℕ, ◌*◌, ◌≡◌, List, map}
-use Rattle.verdict.specs.Refusal.{Verdict}
-use Rattle.verdict.specs.Refusal.{Done}
-use Rattle.verdict.specs.Refusal.{and_then}
+use Rattle.verdict.specs.Refusal.{Verdict, Done, and_then}
 use Rattle.verdict.specs.Output.{join, room_for}
 use Rattle.frame.specs.declared.answer.Answer.{Answer}
 use Rattle.frame.specs.Frame.{clocks, log_record}

@@ -8,8 +8,7 @@ use native.Mathlib.Numerals.{add-one}
 use native.Mathlib.Decide.{ℕ_discrete}
 use lib.Dec.{eqb, leb, ltb}
 use borrow.Author.Tests.{le-leb, lt-leb, leb-true, leb-false, eq-eqb, ne_eqb, ltb-false, ltb-true, lt-ltb}
-use Rattle.verdict.specs.Refusal.{Done}
-use Rattle.verdict.specs.Refusal.{wrong_event, wrong_clock, ◌when◌, ◌else◌}
+use Rattle.verdict.specs.Refusal.{Done, wrong_event, wrong_clock, ◌when◌, ◌else◌}
 use Rattle.verdict.specs.File.{records}
 use Rattle.verdict.proofs.Checks.{accepted}
 use Rattle.verdict.proofs.Elements.{all_of, map_same, map-then, map-stays}

@@ -8,8 +8,7 @@ use lib.ListN.{length, get_or, drop, replicate, get_or-replicate}
 use lib.Seq.{get_or-append-add, get_or-drop}
 use lib.Dec.{eqb, ltb, leb}
 use borrow.Author.Tests.{lt-leb, le-leb, leb-true, leb-false}
-use Rattle.verdict.specs.Refusal.{Verdict}
-use Rattle.verdict.specs.Refusal.{Done, Refused}
+use Rattle.verdict.specs.Refusal.{Verdict, Done, Refused}
 use Rattle.verdict.specs.Output.{tabulate}
 use Rattle.verdict.proofs.Lists.{length-tabulate}
 use Rattle.verdict.proofs.Checks.{accepted}

@@ -5,8 +5,7 @@ use mathlib.Core.Path.{◌≡◌, refl, sym, ◌∙◌}
 use native.Mathlib.Omega.{arith}
 use lib.Dec.{ltb}
 use borrow.Author.Tests.{lt-ltb, le-ltb, ltb-false, le-leb, lt-leb, eqb-true, eqb-false}
-use Rattle.verdict.specs.Refusal.{Done, Refused}
-use Rattle.verdict.specs.Refusal.{wrong_field, address_used, wrong_register_set, wrong_default, not_sound, ◌when◌, ◌else◌, refuse}
+use Rattle.verdict.specs.Refusal.{Done, Refused, wrong_field, address_used, wrong_register_set, wrong_default, not_sound, ◌when◌, ◌else◌, refuse}
 use Rattle.verdict.specs.File.{in_order}
 use Rattle.verdict.proofs.Checks.{FirstAtFault, refused-first, refused-number, done-all-pass, all-pass-done}
 use Rattle.phy.specs.Own.{takes}

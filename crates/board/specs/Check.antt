@@ -1,8 +1,6 @@
 -- Document 01, "A sound board": "at most 32 PHYs (else 12 at place 32, tested first; then the lowest place at fault), unused places blank (..), each record passes checks 3 to 6 against those before it; (..)"
 use Rattle.std.specs.Prelude.{ℕ, Bool, not, ◌&&◌, cond, get_or, eqb, ltb, leb}
-use Rattle.verdict.specs.Refusal.{Verdict}
-use Rattle.verdict.specs.Refusal.{Done}
-use Rattle.verdict.specs.Refusal.{not_sound, ◌when◌, refuse}
+use Rattle.verdict.specs.Refusal.{Verdict, Done, not_sound, ◌when◌, refuse}
 use Rattle.verdict.specs.File.{in_order}
 use Rattle.phy.specs.declared.Phy.{Phy}
 use Rattle.phy.specs.Fields.{record_of}

@@ -1,7 +1,6 @@
 -- Document 01, "Records": "Events, 4 bytes, 0 to 256: clock number (2 bytes), PHY address, code."
 use Rattle.std.specs.Prelude.{ℕ, zero, suc, ◌+◌, ◌*◌, min, List, Bool, not, ◌&&◌, ◌||◌, ltb, leb}
-use Rattle.verdict.specs.Refusal.{Verdict}
-use Rattle.verdict.specs.Refusal.{wrong_event, wrong_clock, ◌when◌, ◌else◌}
+use Rattle.verdict.specs.Refusal.{Verdict, wrong_event, wrong_clock, ◌when◌, ◌else◌}
 use Rattle.verdict.specs.File.{byte_at, word_at, file_verdict}
 use Rattle.board.specs.declared.Board.{Board}
 use Rattle.board.specs.Record.{has_address}

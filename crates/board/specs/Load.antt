@@ -1,7 +1,6 @@
 -- Document 01, "Records": "Board, 134 bytes per PHY, 0 to 32: address, a zero byte, implemented mask (4 bytes, bit r for register r), 32 defaults, 32 write masks."
 use Rattle.std.specs.Prelude.{ℕ, ◌+◌, ◌*◌, List, ◌++◌, Bool, replicate, drop, eqb}
-use Rattle.verdict.specs.Refusal.{Verdict}
-use Rattle.verdict.specs.Refusal.{Done, Refused}
+use Rattle.verdict.specs.Refusal.{Verdict, Done, Refused}
 use Rattle.verdict.specs.File.{byte_at, word_at, file_verdict}
 use Rattle.verdict.specs.Output.{tabulate}
 use Rattle.phy.specs.declared.own.Own.{Own}

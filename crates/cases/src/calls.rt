@@ -68,7 +68,10 @@ fn first(buffer: &[u8], n: u32) -> &[u8] {
 fn told(rt: &impl Print, answer: Result<usize, Refusal>) -> io::Result<()> {
     match answer {
         Ok(n) => print!(rt; " done {n}"),
-        Err(refusal) => print!(rt; " {refusal}"),
+        Err(refusal) => {
+            let number = u8::from(refusal.fault);
+            print!(rt; " refused {number} at {}", refusal.index)
+        }
     }
 }
 

@@ -2,8 +2,7 @@
 use Prim.Native.Nat.{ℕ}
 use mathlib.Core.Path.{◌≡◌, ap, sym, ◌∙◌}
 use mathlib.Core.List.{List}
-use Rattle.verdict.specs.Refusal.{Verdict}
-use Rattle.verdict.specs.Refusal.{Done, Refused}
+use Rattle.verdict.specs.Refusal.{Verdict, Done, Refused}
 use Rattle.verdict.specs.Output.{Writes}
 use Rattle.board.specs.declared.Board.{Board}
 use Rattle.board.specs.Outcome.{Told}

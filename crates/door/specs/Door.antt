@@ -1,8 +1,6 @@
 -- The functions for C: 0 when done, else number * 65536 + index. The board comes as its file's bytes and is loaded fresh.
 use Rattle.std.specs.Prelude.{ℕ, ◌+◌, ◌*◌, ◌%◌, ◌≡◌, List, map}
-use Rattle.verdict.specs.Refusal.{Verdict}
-use Rattle.verdict.specs.Refusal.{Done, Refused}
-use Rattle.verdict.specs.Refusal.{and_then}
+use Rattle.verdict.specs.Refusal.{Verdict, Done, Refused, and_then}
 use Rattle.verdict.specs.Output.{join, output_after}
 use Rattle.frame.specs.Steps.{translating, translation}
 use Rattle.frame.specs.Answers.{answer_bytes, answers_in, decoding}

@@ -7,14 +7,15 @@ use native.Mathlib.Omega.{arith}
 use native.Mathlib.Numerals.{add-one}
 use denote.Ref.{Bor}
 use lib.ListN.{length, get_or}
-use Rattle.verdict.specs.Refusal.{Verdict}
-use Rattle.verdict.specs.Refusal.{Refused}
+use Rattle.verdict.specs.Refusal.{said, Verdict, Refused}
+use Rattle.verdict.specs.declared.Refusal.{Refusal}
+use Rattle.std.specs.Prelude.{Result}
 use Rattle.verdict.specs.Bits.{value_of}
 use Rattle.verdict.specs.File.{records}
 use Rattle.verdict.specs.Output.{tabulate, join}
 use Rattle.verdict.proofs.Checks.{WhyRefused, why-refused}
 use Rattle.verdict.proofs.Lists.{tabulate-ext, map-tabulate, length-pieces, get_or-pieces}
-use Rattle.verdict.proofs.Outputs.{writes-unique}
+use Rattle.verdict.proofs.Outputs.{result-unique}
 use Rattle.frame.specs.declared.list.Transaction.{Transaction}
 use Rattle.frame.specs.Frame.{clocks}
 use Rattle.frame.specs.List.{list_record, most_transactions, is_read, transaction_at, record_fault, list_verdict}
@@ -63,11 +64,11 @@ decode-looks-at list log log' same =
     tabulate-ext _ _ _ (λ k h. answer-looks-at (transaction_at list k) (log_part log (k + 1)) (log_part log' (k + 1)) (same k))
 
 -- two results that meet a promise are equal
-pub translate-unique : (list out : List ℕ) {out₁ out₂ : List ℕ} {r s : Verdict} → Translated list out r out₁ → Translated list out s out₂ → (r ≡ s) × (out₁ ≡ out₂)
-translate-unique list out = writes-unique
+pub translate-unique : (list out : List ℕ) {out₁ out₂ : List ℕ} {r s : Result ℕ Refusal} → Translated list out (said r) out₁ → Translated list out (said s) out₂ → (r ≡ s) × (out₁ ≡ out₂)
+translate-unique list out = result-unique
 
-pub decode-unique : (list log out : List ℕ) {out₁ out₂ : List ℕ} {r s : Verdict} → Decoded list log out r out₁ → Decoded list log out s out₂ → (r ≡ s) × (out₁ ≡ out₂)
-decode-unique list log out = writes-unique
+pub decode-unique : (list log out : List ℕ) {out₁ out₂ : List ℕ} {r s : Result ℕ Refusal} → Decoded list log out (said r) out₁ → Decoded list log out (said s) out₂ → (r ≡ s) × (out₁ ≡ out₂)
+decode-unique list log out = result-unique
 
 -- the same bytes in the same place
 pub part-unique : {log part₁ part₂ : Bor (List ℕ)} {k : ℕ} → PartOf log k part₁ → PartOf log k part₂ → (part₁.now ≡ part₂.now) × (part₁.ref_ptr.0 ≡ part₂.ref_ptr.0) × (part₁.ref_ptr.1 ≡ part₂.ref_ptr.1)

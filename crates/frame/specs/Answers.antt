@@ -1,7 +1,6 @@
 -- Document 01, "Records": "Answers, 6 bytes: status, op, address, register, data. Status 0 write sent, 1 read answered, 2 read silent (data 0)."
 use Rattle.std.specs.Prelude.{ℕ, ◌+◌, ◌*◌, ◌/◌, ◌%◌, Bool, not, cond, List, [], ◌∷◌, map, length, eqb, ltb}
-use Rattle.verdict.specs.Refusal.{Verdict}
-use Rattle.verdict.specs.Refusal.{wrong_log_length, ◌when◌, refuse, and_then}
+use Rattle.verdict.specs.Refusal.{Verdict, wrong_log_length, ◌when◌, refuse, and_then}
 use Rattle.verdict.specs.Bits.{value_of}
 use Rattle.verdict.specs.File.{records}
 use Rattle.verdict.specs.Output.{tabulate, join, written, room_for, Writes}

@@ -1,7 +1,6 @@
 -- Document 01, "Clock steps": "Steps, one byte each: 0 drive zero, 1 drive one, 2 release, 3 release and sample. A transaction is 65 clocks, by position".
 use Rattle.std.specs.Prelude.{ℕ, zero, suc, ◌*◌, Bool, true, false, List, [], ◌∷◌, map, get_or, take, drop, replicate}
-use Rattle.verdict.specs.Refusal.{Verdict}
-use Rattle.verdict.specs.Refusal.{and_then}
+use Rattle.verdict.specs.Refusal.{Verdict, and_then}
 use Rattle.verdict.specs.Bits.{bits, value_of}
 use Rattle.verdict.specs.Output.{join, room_for, Writes}
 use Rattle.frame.specs.declared.list.Transaction.{Transaction}

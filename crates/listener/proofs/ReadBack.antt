@@ -7,9 +7,7 @@ use native.Mathlib.Omega.{arith}
 use lib.ListN.{length, get_or, length-map}
 use lib.Dec.{eqb}
 use borrow.Author.Tests.{le-ltb}
-use Rattle.verdict.specs.Refusal.{Verdict}
-use Rattle.verdict.specs.Refusal.{Done}
-use Rattle.verdict.specs.Refusal.{wrong_level}
+use Rattle.verdict.specs.Refusal.{Verdict, Done, wrong_level}
 use Rattle.verdict.specs.File.{byte_at, records}
 use Rattle.verdict.proofs.Checks.{bytes-done}
 use Rattle.verdict.proofs.Elements.{all-or}

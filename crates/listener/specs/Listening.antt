@@ -1,7 +1,6 @@
 -- The call `listen`. Document 02, E1: "Our analyser saves one byte per clock, 0 or 1. We want a listener that turns up to 4,160 such bytes into answer records."
 use Rattle.std.specs.Prelude.{ℕ, ◌*◌, Bool, List, map, length, eqb}
-use Rattle.verdict.specs.Refusal.{Verdict}
-use Rattle.verdict.specs.Refusal.{wrong_level, and_then}
+use Rattle.verdict.specs.Refusal.{Verdict, wrong_level, and_then}
 use Rattle.verdict.specs.File.{bytes_verdict}
 use Rattle.verdict.specs.Output.{join, room_for, Writes}
 use Rattle.frame.specs.declared.answer.Answer.{Answer}

@@ -38,7 +38,7 @@ records_of frame =
 abbrev pub records_of_all : List ℕ → List Answer
 records_of_all frames = join (map records_of frames)
 
--- the records in what a clock gives
+-- the records in what a frame gives
 abbrev pub records_given : Option Answer → List Answer
 records_given None = []
 records_given (Some answer) = answer ∷ []

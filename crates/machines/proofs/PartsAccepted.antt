@@ -9,8 +9,7 @@ use lib.Dec.{eqb, leb, ltb}
 use lib.ListN.{length, get_or, take, length-append, get_or-append}
 use lib.Seq.{get_or-append-add}
 use borrow.Author.Tests.{le-ltb, lt-ltb, le-leb, lt-leb, ltb-false}
-use Rattle.verdict.specs.Refusal.{Done}
-use Rattle.verdict.specs.Refusal.{wrong_step, ◌when◌}
+use Rattle.verdict.specs.Refusal.{Done, wrong_step, ◌when◌}
 use Rattle.verdict.specs.File.{byte_at, records, byte_fault}
 use Rattle.verdict.specs.Output.{tabulate, join}
 use Rattle.verdict.proofs.Lists.{tabulate-ext, tabulate-cons, length-pieces, get_or-pieces}

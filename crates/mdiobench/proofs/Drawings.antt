@@ -4,8 +4,7 @@ use mathlib.Core.Path.{◌≡◌}
 use mathlib.Core.List.{List}
 use native.Mathlib.Omega.{arith}
 use lib.ListN.{length}
-use Rattle.verdict.specs.Refusal.{Verdict}
-use Rattle.verdict.specs.Refusal.{Done}
+use Rattle.verdict.specs.Refusal.{Verdict, Done}
 use Rattle.frame.specs.Frame.{clocks, log_record}
 use Rattle.frame.specs.List.{list_verdict}
 use Rattle.board.specs.declared.Board.{Board}

@@ -10,8 +10,7 @@ use lib.ListN.{length, take}
 use lib.Seq.{length-take-le, take-length}
 use lib.Arith.{digits_mod}
 use borrow.Author.Tests.{eq-eqb, ne_eqb, lt-ltb}
-use Rattle.verdict.specs.Refusal.{Refused}
-use Rattle.verdict.specs.Refusal.{wrong_length, too_many}
+use Rattle.verdict.specs.Refusal.{Refused, wrong_length, too_many}
 use Rattle.verdict.specs.File.{records, file_verdict, bytes_verdict}
 use Rattle.mdiobench.specs.Input.{IsPrefixLen, stand_in}
 

@@ -4,9 +4,7 @@ use mathlib.Core.Path.{◌≡◌, refl, sym, ◌∙◌}
 use mathlib.Core.List.{List}
 use native.Mathlib.Omega.{arith}
 use lib.ListN.{length}
-use Rattle.verdict.specs.Refusal.{Verdict}
-use Rattle.verdict.specs.Refusal.{Done, Refused}
-use Rattle.verdict.specs.Refusal.{and_then}
+use Rattle.verdict.specs.Refusal.{Verdict, Done, Refused, and_then}
 use Rattle.verdict.specs.Output.{room_for}
 use Rattle.verdict.proofs.Checks.{done-by}
 use Rattle.frame.specs.Frame.{clocks}

@@ -1,7 +1,6 @@
 -- Document 02, E3: "Write a log as such text". Here the log is that of a tray's run: its list sent over the wire, with its events, to its board.
 use Rattle.std.specs.Prelude.{ℕ, List, length}
-use Rattle.verdict.specs.Refusal.{Verdict}
-use Rattle.verdict.specs.Refusal.{and_then}
+use Rattle.verdict.specs.Refusal.{Verdict, and_then}
 use Rattle.verdict.specs.Output.{room_for, Writes}
 use Rattle.board.specs.declared.Board.{Board}
 use Rattle.agreement.specs.Exchange.{send_verdict, log_of_exchange}

@@ -1,7 +1,6 @@
 -- Document 01: "The plain machine takes board, list and events and has no wire: transaction k reads in clock 65(k-1)+46 or stores in 65(k-1)+64, by the register rules; a read of no such PHY or register is status 2; events by clock number. It gives the answers and the board, followers as they were."
 use Rattle.std.specs.Prelude.{ℕ, ◌*◌, List, map}
-use Rattle.verdict.specs.Refusal.{Verdict}
-use Rattle.verdict.specs.Refusal.{and_then}
+use Rattle.verdict.specs.Refusal.{Verdict, and_then}
 use Rattle.verdict.specs.Output.{join, room_for}
 use Rattle.frame.specs.Frame.{preamble, clocks}
 use Rattle.frame.specs.List.{list_verdict, transactions}

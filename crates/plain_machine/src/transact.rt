@@ -66,7 +66,7 @@ fn answer_of(phy: Phy, transaction: Transaction) -> Answer
 }
 
 // All transactions of a list that is not refused. A turn is an event that is due before the next transaction acts, or else
-// that act; each changes the one PHY that it is for where that stands, and no board goes into or out of a call. Past the last
+// that act; each changes the one PHY that it is for where that stands. Past the last
 // record all events that are left have happened.
 pub(crate) fn transact_all(board: &mut Board, list: &[u8], events: &[u8], answers: &mut [u8])
     requires { planning board.old list.now events.now answers.old ≡ Done (records list_record list.now * answer_record) }
@@ -74,7 +74,8 @@ pub(crate) fn transact_all(board: &mut Board, list: &[u8], events: &[u8], answer
 {
     let places = owns_of(*board);
     let owns = &places[..board.count];
-    // A turn counts up one of the two; a `for` over transactions would need a loop over their events inside it, and one more behind it.
+    // A turn counts up one of the two. A `for` over the transactions would need a loop over the events inside it that counts by hand all the
+    // same, and would have to go once past the last record.
     let mut next: usize = 0;
     let mut k: usize = 0;
     loop {

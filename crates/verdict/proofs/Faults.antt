@@ -91,5 +91,5 @@ module _ {A : Type 0} where
   back_judged (Ok a) = refl
   back_judged (Err fault) = ap Err (by_number fault)
 
-  pub one_finding : (one other : Result A Fault) → judged one ≡ judged other → one ≡ other
-  one_finding one other same = sym (back_judged one) ∙ ap found_saying same ∙ back_judged other
+  pub one_judged : (one other : Result A Fault) → judged one ≡ judged other → one ≡ other
+  one_judged one other same = sym (back_judged one) ∙ ap found_saying same ∙ back_judged other

@@ -11,16 +11,22 @@ use lib.ListN.{length, drop, set, length-append, length-drop}
 use lib.Dec.{ltb}
 use lib.Seq.{drop-cons, set_at, take_at, drop_at, drop-drop}
 use borrow.Author.Tests.{le-ltb, ltb-false}
-use Rattle.verdict.specs.Refusal.{Verdict}
-use Rattle.verdict.specs.Refusal.{Done, Refused}
-use Rattle.verdict.specs.Refusal.{no_room, ◌when◌, refuse}
+use Rattle.std.specs.Prelude.{Result}
+use Rattle.verdict.specs.declared.Refusal.{Refusal}
+use Rattle.verdict.specs.Refusal.{Verdict, Done, Refused, said, no_room, ◌when◌, refuse}
 use Rattle.verdict.specs.Output.{tabulate, join, written, room_for, Writes}
+use Rattle.verdict.proofs.Faults.{one_result}
 use Rattle.verdict.proofs.Lists.{length-tabulate, join-append, length-pieces}
 
 module _ {answer : Verdict} {result out : List ℕ} {r s : Verdict} {out₁ out₂ : List ℕ} where
   -- two results that meet the promise are equal
   pub writes-unique : Writes answer result out r out₁ → Writes answer result out s out₂ → (r ≡ s) × (out₁ ≡ out₂)
   writes-unique p q = (p.verdict ∙ sym q.verdict, p.output ∙ sym q.output)
+
+module _ {answer : Verdict} {result out : List ℕ} {r s : Result ℕ Refusal} {out₁ out₂ : List ℕ} where
+  -- and so are the results of calls that say them
+  pub result-unique : Writes answer result out (said r) out₁ → Writes answer result out (said s) out₂ → (r ≡ s) × (out₁ ≡ out₂)
+  result-unique p q = let same = writes-unique p q in (one_result r s same.0, same.1)
 
 -- a refusal leaves the output as it was
 pub refuses : {answer r : Verdict} {c k : ℕ} (result out : List ℕ) → answer ≡ Refused c k → r ≡ Refused c k → Writes answer result out r out

@@ -1,8 +1,6 @@
 -- Document 01, "Records": "All files are records of one fixed size with no header, numbers high byte first."
 use Rattle.std.specs.Prelude.{ℕ, zero, suc, ◌+◌, ◌*◌, ◌/◌, ◌%◌, not, List, length, get_or, eqb, ltb}
-use Rattle.verdict.specs.Refusal.{Verdict}
-use Rattle.verdict.specs.Refusal.{Done}
-use Rattle.verdict.specs.Refusal.{wrong_length, too_many, ◌when◌, refuse}
+use Rattle.verdict.specs.Refusal.{Verdict, Done, wrong_length, too_many, ◌when◌, refuse}
 
 -- a file's bytes; past the end a byte reads 0
 abbrev pub byte_at : List ℕ → ℕ → ℕ

@@ -1,8 +1,6 @@
 -- Document 01, "Refusal numbers": "Nothing is written" and "Success writes the result from the output's start; later bytes stay."
 use Rattle.std.specs.Prelude.{ℕ, zero, suc, ◌≡◌, List, [], ◌∷◌, ◌++◌, length, drop, replicate, ltb}
-use Rattle.verdict.specs.Refusal.{Verdict}
-use Rattle.verdict.specs.Refusal.{Done, Refused}
-use Rattle.verdict.specs.Refusal.{no_room, ◌when◌, refuse}
+use Rattle.verdict.specs.Refusal.{Verdict, Done, Refused, no_room, ◌when◌, refuse}
 
 -- the n values f 0, f 1, ..
 unfoldable pub tabulate : {A : Type 0} → ℕ → (ℕ → A) → List A

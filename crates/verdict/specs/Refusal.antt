@@ -66,7 +66,7 @@ wrong_level = 16
 abbrev pub wrong_text : ℕ
 wrong_text = 18
 
--- "The promises use a definition for any answer that is an enum. For each case of the enum, the definition gives this paper's number"
+-- each fault's number (document 01, "Which shape goes where": "For each case of the enum, the definition gives this paper's number and values")
 abbrev pub number_of : Fault → ℕ
 number_of WrongLength = wrong_length
 number_of TooMany = too_many

@@ -7,7 +7,6 @@ ghost use Rattle.verdict.specs.File.{byte_at, word_at, bytes_verdict};
 ghost use Rattle.verdict.specs.Output.{zeros};
 ghost use Rattle.verdict.specs.Refusal.{said, number_of, refusal_at};
 
-use std::fmt;
 use std::io::Read;
 
 // What a refusal is given for. As a number each is the one of document 01.
@@ -51,12 +50,6 @@ impl From<Fault> for u8 {
 
     fn from(fault: Fault) -> u8 {
         fault as u8
-    }
-}
-
-impl fmt::Display for Refusal {
-    fn fmt<W: fmt::Write>(&self, f: &mut fmt::Formatter<W>) -> fmt::Result {
-        write!(f, "refused {} at {}", u8::from(self.fault), self.index)
     }
 }
 

@@ -8,8 +8,7 @@ use Rattle.std.proofs.lemmas.Option.{none-some}
 use native.Mathlib.Omega.{arith}
 use native.Mathlib.Numerals.{add-one}
 use lib.ListN.{length, take, drop, set, length-append}
-use Rattle.verdict.specs.Refusal.{Done, Refused}
-use Rattle.verdict.specs.Refusal.{wrong_text}
+use Rattle.verdict.specs.Refusal.{Done, Refused, wrong_text}
 use Rattle.std.proofs.lemmas.List.{take_more_set}
 use Rattle.frame.specs.Steps.{most_steps}
 use Rattle.waveform.specs.declared.signals.Signals.{Signals}

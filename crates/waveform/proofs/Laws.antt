@@ -7,14 +7,14 @@ use native.Mathlib.Omega.{arith}
 use lib.ListN.{length}
 use lib.Dec.{ltb}
 use borrow.Author.Tests.{le-ltb}
+use Rattle.verdict.specs.Refusal.{said, Verdict, Done, Refused, no_room, wrong_text, ◌when◌, refuse}
+use Rattle.verdict.specs.declared.Refusal.{Refusal}
+use Rattle.std.specs.Prelude.{Result}
 use Rattle.verdict.specs.Lists.{All}
-use Rattle.verdict.specs.Refusal.{Verdict}
-use Rattle.verdict.specs.Refusal.{Done, Refused}
-use Rattle.verdict.specs.Refusal.{no_room, wrong_text, ◌when◌, refuse}
 use Rattle.verdict.specs.File.{byte_at, records}
 use Rattle.verdict.specs.Output.{written}
 use Rattle.verdict.proofs.Lists.{map-tabulate, tabulate-ext}
-use Rattle.verdict.proofs.Outputs.{writes-unique}
+use Rattle.verdict.proofs.Outputs.{result-unique}
 use Rattle.frame.specs.Frame.{log_record}
 use Rattle.waveform.specs.Signals.{signals_of}
 use Rattle.waveform.specs.Waveform.{text_of, signals_in, waveform, writing, Written, WritesAs, flags_in, ReadBack, longest}
@@ -24,12 +24,12 @@ use Rattle.waveform.proofs.Longest.{never-longer}
 use Rattle.waveform.proofs.ReadBack.{log-read, read_log, reading-both}
 
 -- two results that meet the promise of `write_vcd` are equal, as are the outputs
-pub write-unique : (log out : List ℕ) {r s : Verdict} {out₁ out₂ : List ℕ} → Written log out r out₁ → Written log out s out₂ → (r ≡ s) × (out₁ ≡ out₂)
-write-unique log out p q = writes-unique p q
+pub write-unique : (log out : List ℕ) {r s : Result ℕ Refusal} {out₁ out₂ : List ℕ} → Written log out (said r) out₁ → Written log out (said s) out₂ → (r ≡ s) × (out₁ ≡ out₂)
+write-unique log out p q = result-unique p q
 
 -- and of `read_vcd`
-pub read-unique : (text out : List ℕ) {r s : Verdict} {out₁ out₂ : List ℕ} → ReadBack text out r out₁ → ReadBack text out s out₂ → (r ≡ s) × (out₁ ≡ out₂)
-read-unique text out p q = reading-both (λ answer result. writes-unique) p q
+pub read-unique : (text out : List ℕ) {r s : Result ℕ Refusal} {out₁ out₂ : List ℕ} → ReadBack text out (said r) out₁ → ReadBack text out (said s) out₂ → (r ≡ s) × (out₁ ≡ out₂)
+read-unique text out p q = reading-both (λ answer result. result-unique) p q
 
 -- as many bytes as the longest text has are room for every log
 pub room-for-all : (log out : List ℕ) → Accepted log → longest ≤ length out → writing log out ≡ Done (length (waveform log))

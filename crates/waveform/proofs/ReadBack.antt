@@ -7,9 +7,7 @@ use Rattle.std.proofs.lemmas.Option.{none-some}
 use native.Mathlib.Omega.{arith}
 use lib.ListN.{length, take, drop, length-map}
 use borrow.Author.Tests.{lt-ltb, le-ltb}
-use Rattle.verdict.specs.Refusal.{Verdict}
-use Rattle.verdict.specs.Refusal.{Done, Refused}
-use Rattle.verdict.specs.Refusal.{no_room, wrong_text}
+use Rattle.verdict.specs.Refusal.{Verdict, Done, Refused, no_room, wrong_text}
 use Rattle.verdict.specs.File.{records}
 use Rattle.verdict.specs.Output.{room_for, Writes}
 use Rattle.verdict.proofs.Lists.{length-tabulate}

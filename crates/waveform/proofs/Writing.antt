@@ -7,8 +7,7 @@ use native.Mathlib.Numerals.{add-one}
 use lib.ListN.{length, drop}
 use lib.Seq.{drop-cons, drop-length}
 use borrow.Author.Tests.{eq-eqb, ne_eqb, lt-ltb}
-use Rattle.verdict.specs.Refusal.{Refused}
-use Rattle.verdict.specs.Refusal.{wrong_length, too_many}
+use Rattle.verdict.specs.Refusal.{Refused, wrong_length, too_many}
 use Rattle.verdict.specs.File.{byte_at, records, file_verdict}
 use Rattle.verdict.proofs.Lists.{length-tabulate, get_or-tabulate}
 use Rattle.verdict.proofs.Checks.{accepted, accepts}

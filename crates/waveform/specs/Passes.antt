@@ -1,8 +1,6 @@
 -- What the parts of `write_vcd` and `read_vcd` promise each other.
 use Rattle.std.specs.Prelude.{ℕ, zero, suc, ◌+◌, ◌≤◌, ◌≡◌, Bool, not, ◌&&◌, cond, List, [], ◌∷◌, ◌++◌, map, length, take, drop, eqb, ltb, Result, Ok, Err, Option, Some, None}
-use Rattle.verdict.specs.Refusal.{Verdict}
-use Rattle.verdict.specs.Refusal.{Done, Refused}
-use Rattle.verdict.specs.Refusal.{wrong_text, refusal_at}
+use Rattle.verdict.specs.Refusal.{Verdict, Done, Refused, wrong_text, refusal_at}
 use Rattle.verdict.specs.declared.Refusal.{Refusal}
 use Rattle.verdict.specs.declared.Fault.TheVariants.{WrongText}
 use Rattle.verdict.specs.File.{records}

@@ -1,9 +1,7 @@
 -- Document 02, E3: "Write a log as such text: signals for the level, the station's enable and the contention flag, the values of clock 1, then only changes, with the clock number as time, and a closing time one past the last clock."
 use Rattle.std.specs.Prelude.{ℕ, suc, ◌+◌, ◌-◌, ◌*◌, ◌%◌, ◌≡◌, Bool, not, ◌||◌, cond, List, [], ◌∷◌, ◌++◌, length, eqb}
 use Rattle.std.specs.Bool.{beq}
-use Rattle.verdict.specs.Refusal.{Verdict}
-use Rattle.verdict.specs.Refusal.{Done, Refused}
-use Rattle.verdict.specs.Refusal.{wrong_text, and_then}
+use Rattle.verdict.specs.Refusal.{Verdict, Done, Refused, wrong_text, and_then}
 use Rattle.verdict.specs.File.{byte_at, records, file_verdict}
 use Rattle.verdict.specs.Output.{tabulate, room_for, Writes}
 use Rattle.frame.specs.Frame.{log_record}

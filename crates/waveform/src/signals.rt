@@ -39,23 +39,29 @@ impl From<Signals> for u8 {
     }
 }
 
-// A signal, by its identifier in the header.
+// A signal of the header.
 #[derive(Clone, Copy, Debug, PartialEq, Eq)]
 pub(crate) enum Signal {
-    Level = b'L' as isize,
-    Enable = b'E' as isize,
-    Contention = b'C' as isize,
+    Level,
+    Enable,
+    Contention,
 }
 
 impl Signal {
     // The bytes of a value line.
     pub(crate) const LINE: usize = 3;
 
-    // The line that says a signal's value.
-    #[tactic(auto, using(crate::proofs::Texts::line_of_level, crate::proofs::Texts::line_of_enable, crate::proofs::Texts::line_of_contention))]
+    // The line that says a signal's value, by the signal's identifier in the header: fixed byte strings, as document 01 wants them.
     pub(crate) fn line(self, value: bool) -> [u8; Signal::LINE]
         ensures { result ≡ line_of self value }
     {
-        [b'0' + value as u8, self as u8, b'\n']
+        match (self, value) {
+            (Signal::Level, false) => *b"0L\n",
+            (Signal::Level, true) => *b"1L\n",
+            (Signal::Enable, false) => *b"0E\n",
+            (Signal::Enable, true) => *b"1E\n",
+            (Signal::Contention, false) => *b"0C\n",
+            (Signal::Contention, true) => *b"1C\n",
+        }
     }
 }

@@ -8,8 +8,7 @@ use lib.Seq.{length-take-le}
 use Rattle.std.specs.Prelude.{true, Result, Ok, Err}
 use Rattle.std.specs.Result.{is_ok}
 use Rattle.verdict.specs.declared.Refusal.{Refusal}
-use Rattle.verdict.specs.Refusal.{Verdict, Done, said}
-use Rattle.verdict.specs.Refusal.{wrong_step}
+use Rattle.verdict.specs.Refusal.{Verdict, Done, said, wrong_step}
 use Rattle.verdict.specs.File.{records}
 use Rattle.verdict.proofs.Checks.{accepted, passed-bytes, done-by}
 use Rattle.verdict.proofs.Outputs.{room-done, room_fits}

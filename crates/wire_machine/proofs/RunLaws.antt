@@ -24,21 +24,22 @@ use Rattle.phy.specs.Typed.{Typed}
 use Rattle.phy.proofs.Words.{set_same, set_other}
 use Rattle.phy.proofs.Keeping.{keeps_typed, clock-typed}
 use Rattle.board.specs.declared.Board.{Board}
-use Rattle.board.specs.Outcome.{Told}
+use Rattle.board.specs.declared.Outcome.{Outcome}
+use Rattle.board.specs.Outcome.{told}
 use Rattle.between.specs.Outcome.{phys_of}
 use Rattle.wire_machine.specs.Log.{is_driving, flags_of, mask_from, clock_record}
 use Rattle.board.specs.Record.{addresses_of}
 use Rattle.wire_machine.specs.Run.{party_with, station_drives, phys_after_run, log_of_run, Ran}
 use Rattle.between.specs.Events.{at_start}
 use Rattle.wire_machine.proofs.Lockstep.{phys_after, station_in, drives_in, log-by-clock}
-use Rattle.between.proofs.Laws.{hands-back-unique}
+use Rattle.between.proofs.Laws.{outcome-unique}
 use Rattle.between.proofs.HappensEffect.{happens-effect}
 use Rattle.between.proofs.EachPlace.{keeps-closed, each_keeps}
 use Rattle.wire_machine.proofs.RunEach.{run-changes}
 
 -- two results that meet the promise of `run` are equal, as are the logs
-pub run-unique : (board : Board) (steps events log : List ℕ) {r s : Told} {log₁ log₂ : List ℕ} → Ran board steps events log r log₁ → Ran board steps events log s log₂ → (r ≡ s) × (log₁ ≡ log₂)
-run-unique board steps events log p q = hands-back-unique p q
+pub run-unique : (board : Board) (steps events log : List ℕ) {r s : Outcome} {log₁ log₂ : List ℕ} → Ran board steps events log (told r) log₁ → Ran board steps events log (told s) log₂ → (r ≡ s) × (log₁ ≡ log₂)
+run-unique board steps events log p q = outcome-unique p q
 
 -- The flags: "1 level, 2 station drives, 4 two or more parties drive"
 module _ (station : Drive) (drives : List Drive) where

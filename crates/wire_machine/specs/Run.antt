@@ -1,7 +1,6 @@
 -- Document 01, "Clock steps": "What each party drives in a clock depends on its state before that clock. (..) Then all sample it. A run takes any steps, so it may show contention."
 use Rattle.std.specs.Prelude.{ℕ, ◌*◌, List, map}
-use Rattle.verdict.specs.Refusal.{Verdict}
-use Rattle.verdict.specs.Refusal.{wrong_step, and_then}
+use Rattle.verdict.specs.Refusal.{Verdict, wrong_step, and_then}
 use Rattle.verdict.specs.File.{bytes_verdict}
 use Rattle.verdict.specs.Output.{join, room_for}
 use Rattle.frame.specs.Frame.{log_record}

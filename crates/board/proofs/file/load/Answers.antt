@@ -7,8 +7,7 @@ use native.Mathlib.Omega.{arith}
 use native.Mathlib.Nat.{sub-zero}
 use lib.ListN.{length, set, replicate}
 use borrow.Author.Tests.{eq-eqb, le-ltb}
-use Rattle.verdict.specs.Refusal.{Verdict}
-use Rattle.verdict.specs.Refusal.{Done, number_of, finding}
+use Rattle.verdict.specs.Refusal.{Verdict, Done, number_of, finding}
 use Rattle.verdict.specs.File.{file_verdict}
 use Rattle.verdict.specs.Output.{tabulate}
 use Rattle.verdict.proofs.Checks.{next, stop, finish}
