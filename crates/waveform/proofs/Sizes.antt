@@ -11,30 +11,28 @@ use Rattle.waveform.specs.declared.signals.Signals.{Signals}
 use Rattle.waveform.specs.Text.{time_line}
 use Rattle.waveform.specs.declared.signals.Signal.{Signal}
 use Rattle.waveform.specs.declared.signals.Signal.TheVariants.{Level, Enable, Contention}
-use Rattle.waveform.specs.Signals.{signals_of, value_line}
+use Rattle.waveform.specs.Signals.{value_line}
 use Rattle.waveform.specs.Passes.{shown_at}
 use Rattle.waveform.proofs.Texts.{length-time, length-line}
 use Rattle.waveform.proofs.Clocks.{lines-by}
 use mir.Val.{bool_byte}
 use lib.Dec.{ltb}
 use Rattle.waveform.specs.Waveform.{header, clock_lines, waveform}
-use Rattle.waveform.proofs.Writing.{signals_at, to_come, all, clock-first, closing-last, behind-header}
+use Rattle.waveform.proofs.Writing.{to_come, lines_at, clock-first, closing-last, behind-header}
 use Rattle.waveform.proofs.Longest.{header-long}
 
 module _ (log : List ℕ) where
-  abbrev pub Sized : ℕ → Signals → ℕ → Type 0
-  Sized size old i = size + length (to_come log old i) ≡ length (waveform log)
+  abbrev pub Sized : ℕ → ℕ → Type 0
+  Sized size i = size + length (to_come log i) ≡ length (waveform log)
 
-  pub sized-first : Sized 239 (signals_of 0) 0
-  sized-first = sym (ap length (behind-header log) ∙ length-append header (all log) ∙ ap (λ n. n + length (all log)) header-long)
+  pub sized-first : Sized 239 0
+  sized-first = sym (ap length (behind-header log) ∙ length-append header (to_come log 0) ∙ ap (λ n. n + length (to_come log 0)) header-long)
 
-  pub sized-next : (size i : ℕ) (old : Signals) → i < records log_record log → Sized size old i → Sized (size + length (clock_lines (i + 1) old (signals_at log i))) (signals_at log i) (i + 1)
-  sized-next size i old here now =
-      let lines = clock_lines (i + 1) old (signals_at log i) in
-      omega (arith, now, ap length (clock-first log old i here), length-append lines (to_come log (signals_at log i) (i + 1)))
+  pub sized-next : (size i : ℕ) → i < records log_record log → Sized size i → Sized (size + length (lines_at log i)) (i + 1)
+  sized-next size i here now = omega (arith, now, ap length (clock-first log i here), length-append (lines_at log i) (to_come log (i + 1)))
 
-  pub sized-end : (size i : ℕ) (old : Signals) → i ≡ records log_record log → Sized size old i → size + length (time_line (records log_record log + 1)) ≡ length (waveform log)
-  sized-end size i old end now = omega (arith, now, ap (λ j. length (to_come log old j)) end, ap length (closing-last log old))
+  pub sized-end : (size i : ℕ) → i ≡ records log_record log → Sized size i → size + length (time_line (records log_record log + 1)) ≡ length (waveform log)
+  sized-end size i end now = omega (arith, now, ap (λ j. length (to_come log j)) end, ap length (closing-last log))
 
 -- the bytes of a clock's lines, by the signals that it shows
 value-long : (signal : Signal) (shown value : Bool) → length (value_line signal shown value) ≡ bool_byte shown * 3

@@ -1,14 +1,17 @@
 -- What the parts of `write_vcd` and `read_vcd` promise each other.
-use Rattle.std.specs.Prelude.{ℕ, zero, suc, ◌+◌, ◌≤◌, ◌≡◌, Bool, not, ◌&&◌, cond, List, [], ◌∷◌, ◌++◌, map, length, take, drop, eqb, ltb, Result, Ok, Err, Option, Some, None}
-use Rattle.verdict.specs.Refusal.{Verdict, Done, Refused, wrong_text, refusal_at}
+use Rattle.std.specs.Prelude.{ℕ, zero, suc, ◌+◌, ◌-◌, ◌*◌, ◌≤◌, ◌≡◌, Bool, not, ◌&&◌, cond, List, [], ◌∷◌, ◌++◌, map, length, take, drop, eqb, ltb, Result, Ok, Err, Option, Some, None}
+use Rattle.verdict.specs.Refusal.{Verdict}
+use Rattle.verdict.specs.Refusal.{Done, Refused}
+use Rattle.verdict.specs.Refusal.{wrong_text, refusal_at}
 use Rattle.verdict.specs.declared.Refusal.{Refusal}
 use Rattle.verdict.specs.declared.Fault.TheVariants.{WrongText}
-use Rattle.verdict.specs.File.{records}
+use Rattle.verdict.specs.File.{byte_at, records}
 use Rattle.frame.specs.Frame.{log_record}
 use Rattle.frame.specs.Steps.{most_steps}
 use Rattle.waveform.specs.declared.signals.Signals.{Signals}
 use Rattle.waveform.specs.declared.signals.Signal.{Signal}
 use Rattle.waveform.specs.declared.signals.Signal.TheVariants.{Level, Enable, Contention}
+use Rattle.waveform.specs.declared.write.Clock.{Clock as LogClock}
 use Rattle.waveform.specs.declared.write.Output.{Output}
 use Rattle.waveform.specs.declared.read.Seen.{Seen as SeenBy}
 use Rattle.waveform.specs.declared.read.Shown.{Shown as ShownBy}
@@ -37,6 +40,14 @@ shown_at clock old new =
       enable = shows clock old.enable new.enable;
       contention = shows clock old.contention new.contention;
     }
+
+-- the flags of the record before record i of a log; before the first no signal is on
+abbrev pub flags_before : List ℕ → ℕ → ℕ
+flags_before log i = cond (eqb i 0) 0 (byte_at log ((i - 1) * log_record))
+
+-- the clock of record i
+abbrev pub clock_at : List ℕ → ℕ → LogClock
+clock_at log i = record { number = i + 1; old = signals_of (flags_before log i); new = signals_of (byte_at log (i * log_record)) }
 
 -- a log that the writer accepts
 abbrev pub Accepted : List ℕ → Type 0

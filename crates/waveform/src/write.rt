@@ -1,10 +1,12 @@
 // From a log to its text.
 ghost use Rattle.std.specs.Prelude.{◌≡◌, ◌<◌, length};
 ghost use Rattle.verdict.specs.Refusal.{said};
+ghost use Rattle.verdict.specs.File.{records};
+ghost use Rattle.frame.specs.Frame.{log_record};
 ghost use Rattle.waveform.specs.Text.{time_line};
 ghost use Rattle.waveform.specs.Signals.{value_line};
 ghost use Rattle.waveform.specs.Waveform.{clock_lines, waveform, Written};
-ghost use Rattle.waveform.specs.Passes.{HasRoom, Puts, Accepted, shown_at};
+ghost use Rattle.waveform.specs.Passes.{HasRoom, Puts, Accepted, clock_at, shown_at};
 
 use crate::Waveform;
 use crate::lines::{header, places, time_line};
@@ -21,6 +23,23 @@ struct Clock {
 }
 
 impl Clock {
+    // The clock of record i of a log; before clock 1 no signal is on.
+    fn at(log: &[u8], i: usize) -> Clock
+        requires { i < records log_record log.now }
+        ensures { result ≡ clock_at log.now i }
+    {
+        let old = if i == 0 {
+            0
+        } else {
+            log[(i - 1) * Frame::LOG_RECORD]
+        };
+        Clock {
+            number: i + 1,
+            old: Signals::from(old),
+            new: Signals::from(log[i * Frame::LOG_RECORD]),
+        }
+    }
+
     // The signals that it shows: all at clock 1, later those that change.
     fn shown(self) -> Signals
         ensures { result ≡ shown_at self.number self.old self.new }
@@ -113,40 +132,23 @@ impl Output<'_> {
         ensures { Puts self.old (waveform log.now) self.new }
     {
         self.put(&header());
-        let mut old = Signals::from(0);
         let count = log.len() / Frame::LOG_RECORD;
         for i in 0..count {
-            let new = Signals::from(log[i * Frame::LOG_RECORD]);
-            let clock = Clock {
-                number: i + 1,
-                old,
-                new,
-            };
-            self.put_clock(clock);
-            old = new;
+            self.put_clock(Clock::at(log, i));
         }
         self.put_time(count + 1);
     }
 }
 
-// How many bytes the text of a log takes. Its loop is that of `put_all` and stands beside it: a text that is only measured is not lent, and
-// one loop for both would ask at each line whether to write.
+// How many bytes the text of a log takes. It has a loop of its own, since a text that is only measured is not lent.
 fn text_size(log: &[u8]) -> usize
     requires { Accepted log.now }
     ensures { result ≡ length (waveform log.now) }
 {
     let mut size = Waveform::HEADER;
-    let mut old = Signals::from(0);
     let count = log.len() / Frame::LOG_RECORD;
     for i in 0..count {
-        let new = Signals::from(log[i * Frame::LOG_RECORD]);
-        let clock = Clock {
-            number: i + 1,
-            old,
-            new,
-        };
-        size += clock.size();
-        old = new;
+        size += Clock::at(log, i).size();
     }
     size + time_size(count + 1)
 }
