@@ -1,5 +1,5 @@
 -- The header, then clock by clock, up to the closing time or to what the writer never writes.
-use Prim.Native.Nat.{◌+◌}
+use Prim.Native.Nat.{ℕ, ◌+◌, ◌≤◌}
 use mathlib.Core.Path.{◌≡◌, refl, subst, ◌∙◌}
 use native.Mathlib.Omega.{arith}
 use lib.ListN.{length-set}
@@ -7,10 +7,15 @@ use lib.Seq.{take-set-le}
 use borrow.Author.Rules.{rules}
 use Rattle.std.specs.Prelude.{Err}
 use Rattle.verdict.specs.Refusal.{Done}
+use Rattle.frame.specs.Steps.{most_steps}
 use Rattle.waveform.specs.Passes.{shown_by, GoneOver}
 use Rattle.waveform.proofs.Starts.{asked}
 use Rattle.waveform.proofs.GoingOver.{no_header, goes_first, closes, ends, runs-out, goes_on}
 use Rattle.waveform.proofs.read.read_clocks.Goals as goal
+
+-- where every place is taken, the clock that comes next is number 4,161
+behind-last : {i : ℕ} → most_steps ≤ i → i ≤ most_steps → i + 1 ≡ 4161
+behind-last here within = omega (arith, here, within)
 
 pub returns-in_default : goal.returns-in_default
 returns-in_default c =
@@ -44,18 +49,18 @@ pub returns-in_err-what_follows : goal.returns-in_err-what_follows
 returns-in_err-what_follows c =
     let refused : c.from_residual-in_err-what_follows.result ≡ Err c.in_err-what_follows.field-0.0 = search rules in
     let next = c.in_err-what_follows.ensures in
-    let last : c.loop-i.i + 1 ≡ 4161 = omega (arith, c.loop-i-test.false, c.loop-i.auto.i-end, c.loop-i.invariant.1, c.told-flags) in
+    let last = behind-last c.loop-i-test.false c.loop-i.auto.i-end in
     rw (refused, next.1) (ends c.args.text.now c.loop-i.invariant.0 (rw last next.0) _)
 
 pub returns-in-None : goal.returns-in-None
 returns-in-None c =
-    let last : c.loop-i.i + 1 ≡ 4161 = omega (arith, c.loop-i-test.false, c.loop-i.auto.i-end, c.loop-i.invariant.1, c.told-flags) in
+    let last = behind-last c.loop-i-test.false c.loop-i.auto.i-end in
     let all : c.loop-i.i ≡ 4160 = omega (arith, last) in
     subst (λ n. GoneOver c.args.text.now (Done n) c.loop-i.flags) all
     (closes c.args.text.now c.loop-i.invariant.0 (rw last (rw c.in-None.is at c.in_ok-what_follows.ensures)) c.loop-i.flags refl)
 
 pub returns-in-Some-3 : goal.returns-in-Some-3
 returns-in-Some-3 c =
-    let last : c.loop-i.i + 1 ≡ 4161 = omega (arith, c.loop-i-test.false, c.loop-i.auto.i-end, c.loop-i.invariant.1, c.told-flags) in
+    let last = behind-last c.loop-i-test.false c.loop-i.auto.i-end in
     rw c.at-in-Some-3.ensures
     (runs-out c.args.text.now c.loop-i.invariant.0 (omega (arith, last)) (shown_by c.in-Some-3.field-0) (rw last (rw c.in-Some-3.is at c.in_ok-what_follows.ensures)) c.loop-i.flags)
