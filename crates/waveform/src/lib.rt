@@ -20,6 +20,8 @@ impl Waveform {
     pub const LONGEST: usize = Waveform::HEADER + Waveform::LONGEST_LINES;
     // The bytes of the header.
     pub(crate) const HEADER: usize = 239;
+    // The bytes of the longest time line: of a number of four digits.
+    pub(crate) const LONGEST_TIME: usize = 6;
     // The bytes of its time lines, of clocks 1 to 9, 10 to 99, 100 to 999 and 1000 to the closing time, and of its value lines.
     const LONGEST_LINES: usize = 9 * 3 + 90 * 4 + 900 * 5 + 3162 * 6 + 9 * Waveform::MOST;
 }

@@ -40,7 +40,7 @@ pub(crate) fn places(clock: usize) -> usize
 }
 
 // The line of a time, of as many bytes as the clock's number asks for, at the end of the room that is lent for it.
-pub(crate) fn time_line(clock: usize, room: &mut [u8; 6]) -> &[u8]
+pub(crate) fn time_line(clock: usize, room: &mut [u8; Waveform::LONGEST_TIME]) -> &[u8]
     ensures { result.now ≡ time_line clock }
 {
     *room = [

@@ -79,7 +79,7 @@ fn what_follows<'a>(
     ensures { IsNext (next_in text.now clock old) result }
 {
     let first = clock == 1;
-    let mut room = [0; 6];
+    let mut room = [0; Waveform::LONGEST_TIME];
     let time = time_line(clock, &mut room);
     let Some(values) = text.strip_prefix(time) else {
         if first {

@@ -96,7 +96,7 @@ impl Output<'_> {
         requires { HasRoom self.old (time_line number) }
         ensures { Puts self.old (time_line number) self.new }
     {
-        let mut room = [0; 6];
+        let mut room = [0; Waveform::LONGEST_TIME];
         self.put(time_line(number, &mut room));
     }
 
