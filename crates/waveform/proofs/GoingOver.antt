@@ -42,7 +42,7 @@ unfoldable pub rest_at : ℕ → List ℕ → Signals → Option (List Signals)
 rest_at i rest old = clocks_from (most_steps - i) rest (i + 1) old
 
 rest-next : (i : ℕ) (rest : List ℕ) (old : Signals) → i < most_steps →
-    rest_at i rest old ≡ clocks_by (next_in rest (i + 1) old) (λ shown. rest_at (i + 1) shown.rest shown.signals)
+    rest_at i rest old ≡ clocks_by (next_in rest (i + 1) old) (λ shown. rest_at (i + 1) shown.rest shown.value)
 unfolding rest_at clocks_from
 rest-next i rest old few =
     let left : most_steps - i ≡ suc (most_steps - (i + 1)) = omega arith in
@@ -59,7 +59,7 @@ rest-by i rest old = go (most_steps - i) refl
   where
     go : (left : ℕ) → most_steps - i ≡ left → Later i rest old
     go zero e = record { later = λ shown. None; is = rw e }
-    go (suc left) e = record { later = λ shown. clocks_from left shown.rest (suc (i + 1)) shown.signals; is = rw e }
+    go (suc left) e = record { later = λ shown. clocks_from left shown.rest (suc (i + 1)) shown.value; is = rw e }
 
 module _ (text : List ℕ) where
   pub record GoesOver (flags rest : List ℕ) (old : Signals) (i : ℕ) : Type 0 where
@@ -109,18 +109,18 @@ module _ (text : List ℕ) where
 
     -- another clock, whose flags are put behind those of the others
     pub goes_on : i < most_steps → i < length flags → (shown : Shown) → next_in rest (i + 1) old ≡ Clock shown →
-        (flags' : List ℕ) → flags' ≡ set flags i (flags_of shown.signals) → GoesOver flags' shown.rest shown.signals (i + 1)
+        (flags' : List ℕ) → flags' ≡ set flags i (flags_of shown.value) → GoesOver flags' shown.rest shown.value (i + 1)
     goes_on few place shown next flags' puts =
         record {
-          past = now.past ++ (shown.signals ∷ []);
-          count = omega (arith, now.count, length-append now.past (shown.signals ∷ []));
+          past = now.past ++ (shown.value ∷ []);
+          count = omega (arith, now.count, length-append now.past (shown.value ∷ []));
           all =
               now.all
-              ∙ ap (prepend_all now.past) (rest-next i rest old few ∙ ap (λ n. clocks_by n (λ s. rest_at (i + 1) s.rest s.signals)) next)
-              ∙ sym (one_more now.past shown.signals _);
+              ∙ ap (prepend_all now.past) (rest-next i rest old few ∙ ap (λ n. clocks_by n (λ s. rest_at (i + 1) s.rest s.value)) next)
+              ∙ sym (one_more now.past shown.value _);
           output =
               ap (take (i + 1)) puts
-              ∙ take_more_set flags i (flags_of shown.signals) place
-              ∙ ap (λ done. done ++ (flags_of shown.signals ∷ [])) now.output
-              ∙ sym (map-append flags_of now.past (shown.signals ∷ []));
+              ∙ take_more_set flags i (flags_of shown.value) place
+              ∙ ap (λ done. done ++ (flags_of shown.value ∷ [])) now.output
+              ∙ sym (map-append flags_of now.past (shown.value ∷ []));
         }

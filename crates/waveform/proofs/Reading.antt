@@ -27,7 +27,7 @@ length-zero (x ∷ xs) e = absurd (omega arith)
 -- What is read was written. What may come next: the closing time, or a clock's lines, of which there may be none
 data Goes (text : List ℕ) (clock : ℕ) (old : Signals) : Next → Type 0 where
   closes : text ≡ time_line clock → Goes text clock old Closing
-  goes_on : {shown : Shown} → text ≡ clock_lines clock old shown.signals ++ shown.rest → Goes text clock old (Clock shown)
+  goes_on : {shown : Shown} → text ≡ clock_lines clock old shown.value ++ shown.rest → Goes text clock old (Clock shown)
   foreign : Goes text clock old Foreign
 
 -- what the reader takes for next is there
@@ -42,7 +42,7 @@ goes text clock old = go _ _ _ _ refl refl refl refl
     all = shown_in values old (eqb clock 1)
 
     go : (time end first few : Bool) → starts_with (time_line clock) text ≡ time → eqb (length values) 0 ≡ end → eqb clock 1 ≡ first → ltb (length values) (least (eqb clock 1) + length all.rest) ≡ few →
-        Goes text clock old (cond time (cond end Closing (cond few Foreign (Clock all))) (cond first Foreign (Clock (record { signals = old; rest = text }))))
+        Goes text clock old (cond time (cond end Closing (cond few Foreign (Clock all))) (cond first Foreign (Clock (record { value = old; rest = text }))))
     go true true first few p q r s =
         let nothing : values ≡ [] = length-zero values (eqb-true (length values) 0 q) in
         closes (started (time_line clock) text p ∙ ap (λ more. time_line clock ++ more) nothing ∙ append-nil (time_line clock))
@@ -51,7 +51,7 @@ goes text clock old = go _ _ _ _ refl refl refl refl
         goes_on (clock-seen values clock old (sees _ _ _ _) (sees _ _ _ _) (sees _ _ _ _) (ltb-false _ _ s) (started (time_line clock) text p))
     go false end true few p q r s = foreign
     go false end false few p q r s =
-        goes_on {shown = record { signals = old; rest = text }} (rw (r, same-untold old.level, same-untold old.enable, same-untold old.contention))
+        goes_on {shown = record { value = old; rest = text }} (rw (r, same-untold old.level, same-untold old.enable, same-untold old.contention))
 
 -- the text is the lines of these clocks, of which there are few enough
 abbrev pub Holds : List ℕ → ℕ → ℕ → Signals → List Signals → Type 0
@@ -59,7 +59,7 @@ Holds text left clock old clocks = (text ≡ lines_from clock old clocks) × (le
 
 -- if what is read behind the next clock was written, so was what is read before it
 reads : (text : List ℕ) (left clock : ℕ) (old : Signals) (clocks : List Signals) (later : Shown → Option (List Signals)) →
-    ((shown : Shown) (rest : List Signals) → later shown ≡ Some rest → (shown.rest ≡ lines_from (suc clock) shown.signals rest) × (length rest < left)) →
+    ((shown : Shown) (rest : List Signals) → later shown ≡ Some rest → (shown.rest ≡ lines_from (suc clock) shown.value rest) × (length rest < left)) →
     {next : Next} → Goes text clock old next → clocks_by next later ≡ Some clocks → Holds text left clock old clocks
 unfolding lines_from
 reads text left clock old clocks later rest (closes here) e =
@@ -68,12 +68,12 @@ reads text left clock old clocks later rest (closes here) e =
 reads text left clock old clocks later rest foreign e = absurd (none-some clocks e)
 reads text left clock old clocks later rest (goes_on {shown} here) e = go (later shown) refl e
   where
-    go : (o : Option (List Signals)) → later shown ≡ o → prepend shown.signals o ≡ Some clocks → Holds text left clock old clocks
+    go : (o : Option (List Signals)) → later shown ≡ o → prepend shown.value o ≡ Some clocks → Holds text left clock old clocks
     go None p e = absurd (none-some clocks e)
     go (Some more) p e =
         let r = rest shown more p in
-        let all : shown.signals ∷ more ≡ clocks = cc in
-        rw (← all) (here ∙ ap (λ lines. clock_lines clock old shown.signals ++ lines) r.0, r.1)
+        let all : shown.value ∷ more ≡ clocks = cc in
+        rw (← all) (here ∙ ap (λ lines. clock_lines clock old shown.value ++ lines) r.0, r.1)
 
 -- so from any clock on what is read was written
 pub sound : (text : List ℕ) (left clock : ℕ) (old : Signals) (clocks : List Signals) → clocks_from left text clock old ≡ Some clocks → Holds text left clock old clocks
@@ -82,7 +82,7 @@ sound text zero clock old clocks e =
     reads text zero clock old clocks _ (λ shown rest p. absurd (none-some rest p)) (goes text clock old) e
 sound text (suc left) clock old clocks e =
     reads text (suc left) clock old clocks _
-    (λ shown rest p. let r = sound shown.rest left (suc clock) shown.signals rest p in (r.0, omega (arith, r.1)))
+    (λ shown rest p. let r = sound shown.rest left (suc clock) shown.value rest p in (r.0, omega (arith, r.1)))
     (goes text clock old)
     e
 
@@ -117,7 +117,7 @@ module _ (text : List ℕ) (clock : ℕ) (old : Signals) where
 
   -- or a clock and the lines behind it
   Follows : Signals → List ℕ → Type 0
-  Follows new lines = next_in text clock old ≡ Clock (record { signals = new; rest = lines })
+  Follows new lines = next_in text clock old ≡ Clock (record { value = new; rest = lines })
 
   module _ (new : Signals) (lines : List ℕ) (most : ℕ) (time : Timed (suc clock) most lines) (small : most < 10000) where
     -- where it shows signals
@@ -138,7 +138,7 @@ module _ (text : List ℕ) (clock : ℕ) (old : Signals) where
         let same = all_same clock old new e in
         let other = no-time clock time.number time.more (omega (arith, time.early)) (omega (arith, time.late)) in
         let says : starts_with (time_line clock) text ≡ false = rw (here, time.is, other) in
-        rw (says, same.0) (ap₂ (λ (signals : Signals) (rest : List ℕ). Clock (record { signals = signals; rest = rest })) same.1 here)
+        rw (says, same.0) (ap₂ (λ (signals : Signals) (rest : List ℕ). Clock (record { value = signals; rest = rest })) same.1 here)
 
     -- in either case the reader takes that clock
     next-clock : text ≡ clock_lines clock old new ++ lines → Follows new lines

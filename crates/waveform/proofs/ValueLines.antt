@@ -31,7 +31,7 @@ same-untold true = refl
 same-untold false = refl
 
 -- What is seen was written. One signal: a line that the writer puts there, or none, which is too little at clock 1
-pub record Sees (text : List ℕ) (signal : Signal) (old first : Bool) (seen : Seen) : Type 0 where
+pub record Sees (text : List ℕ) (signal : Signal) (old first : Bool) (seen : Seen Bool) : Type 0 where
   pub most : length text ≤ 3 + length seen.rest
   pub hidden : told first old seen.value ≡ false → seen.rest ≡ text
   pub line : (first ≡ true → 3 + length seen.rest ≤ length text) → text ≡ value_line signal (told first old seen.value) seen.value ++ seen.rest
@@ -64,7 +64,7 @@ module _ (text : List ℕ) (signal : Signal) (old first : Bool) where
       go false false same p q r = sees-none
 
 -- All three: where lines enough are passed over they are a clock's, and there is one among them
-module _ (values : List ℕ) (clock : ℕ) (old : Signals) {l e c : Seen}
+module _ (values : List ℕ) (clock : ℕ) (old : Signals) {l e c : Seen Bool}
     (level : Sees values Level old.level (eqb clock 1) l)
     (enable : Sees l.rest Enable old.enable (eqb clock 1) e)
     (contention : Sees e.rest Contention old.contention (eqb clock 1) c)
@@ -196,7 +196,7 @@ module _ (clock : ℕ) (old new : Signals) where
       go false = silent value
 
   pub record FindsAll (values more : List ℕ) : Type 0 where
-    pub seen : shown_in values old (eqb clock 1) ≡ record { signals = new; rest = more }
+    pub seen : shown_in values old (eqb clock 1) ≡ record { value = new; rest = more }
     pub enough : shows_any clock old new ≡ true → least (eqb clock 1) + length more ≤ length values
 
   pub finds-all : (values more : List ℕ) → ((signal : Signal) → Silent signal more) → values ≡ value_lines clock old new ++ more → FindsAll values more

@@ -14,7 +14,6 @@ use Rattle.waveform.specs.declared.signals.Signal.TheVariants.{Level, Enable, Co
 use Rattle.waveform.specs.declared.write.Clock.{Clock as LogClock}
 use Rattle.waveform.specs.declared.write.Output.{Output}
 use Rattle.waveform.specs.declared.read.Seen.{Seen as SeenBy}
-use Rattle.waveform.specs.declared.read.Shown.{Shown as ShownBy}
 use Rattle.waveform.specs.Text.{time_line, starts_with}
 use Rattle.waveform.specs.Signals.{signals_of, flags_of, line_of}
 use Rattle.waveform.specs.Waveform.{header, shows, log_verdict}
@@ -53,30 +52,25 @@ clock_at log i = record { number = i + 1; old = signals_of (flags_before log i);
 abbrev pub Accepted : List ℕ → Type 0
 Accepted log = log_verdict log ≡ Done (records log_record log)
 
--- Reading: the value of a signal in a clock, and the text behind its line
-pub record Seen : Type 0 where
-  pub value : Bool
+-- Reading: what the text says of a signal in a clock, or of all three, and the text behind its lines
+pub record Seen (A : Type 0) : Type 0 where
+  pub value : A
   pub rest : List ℕ
 
 -- as the code hands it back
-abbrev pub seen_by : SeenBy → Seen
+abbrev pub seen_by : {A : Type 0} → SeenBy A → Seen A
 seen_by seen = record { value = seen.value; rest = seen.rest.now }
 
 -- a signal keeps its value where no line says another; at clock 1 a line that says the same counts too
-unfoldable pub seen_in : List ℕ → Signal → Bool → Bool → Seen
+unfoldable pub seen_in : List ℕ → Signal → Bool → Bool → Seen Bool
 seen_in text signal old first =
     cond (starts_with (line_of signal (not old)) text) (record { value = not old; rest = drop 3 text })
     (cond (first && starts_with (line_of signal old) text) (record { value = old; rest = drop 3 text })
     (record { value = old; rest = text }))
 
--- the signals of a clock, and the text behind its lines
-pub record Shown : Type 0 where
-  pub signals : Signals
-  pub rest : List ℕ
-
--- as the code hands it back
-abbrev pub shown_by : ShownBy → Shown
-shown_by shown = record { signals = shown.signals; rest = shown.rest.now }
+-- of all three
+abbrev pub Shown : Type 0
+Shown = Seen Signals
 
 -- one signal behind the other
 unfoldable pub shown_in : List ℕ → Signals → Bool → Shown
@@ -85,7 +79,7 @@ shown_in text old first =
     let enable = seen_in level.rest Enable old.enable first in
     let contention = seen_in enable.rest Contention old.contention first in
     record {
-      signals = record { level = level.value; enable = enable.value; contention = contention.value };
+      value = record { level = level.value; enable = enable.value; contention = contention.value };
       rest = contention.rest;
     }
 
@@ -110,11 +104,11 @@ next_in text clock old =
     let values = drop (length (time_line clock)) text in
     cond (starts_with (time_line clock) text)
     (cond (eqb (length values) 0) Closing (clock_by values first (shown_in values old first)))
-    (cond first Foreign (Clock (record { signals = old; rest = text })))
+    (cond first Foreign (Clock (record { value = old; rest = text })))
 
 -- the code's result for it
-abbrev pub IsNext : Next → Result (Option ShownBy) Refusal → Type 0
-IsNext next (Ok (Some shown)) = next ≡ Clock (shown_by shown)
+abbrev pub IsNext : Next → Result (Option (SeenBy Signals)) Refusal → Type 0
+IsNext next (Ok (Some shown)) = next ≡ Clock (seen_by shown)
 IsNext next (Ok None) = next ≡ Closing
 IsNext next (Err refusal) = (next ≡ Foreign) × (refusal ≡ refusal_at WrongText 0)
 
@@ -126,13 +120,13 @@ prepend signals (Some later) = Some (signals ∷ later)
 abbrev pub clocks_by : Next → (Shown → Option (List Signals)) → Option (List Signals)
 clocks_by Closing later = Some []
 clocks_by Foreign later = None
-clocks_by (Clock shown) later = prepend shown.signals (later shown)
+clocks_by (Clock shown) later = prepend shown.value (later shown)
 
 -- the signals of the clocks of a text from a clock on, of which there are `left` at most; none where the text is foreign
 unfoldable pub clocks_from : ℕ → List ℕ → ℕ → Signals → Option (List Signals)
 clocks_from zero text clock old = clocks_by (next_in text clock old) (λ shown. None)
 clocks_from (suc left) text clock old =
-    clocks_by (next_in text clock old) (λ shown. clocks_from left shown.rest (suc clock) shown.signals)
+    clocks_by (next_in text clock old) (λ shown. clocks_from left shown.rest (suc clock) shown.value)
 
 unfoldable pub clocks_in : List ℕ → Option (List Signals)
 clocks_in text = cond (starts_with header text) (clocks_from most_steps (drop (length header) text) 1 (signals_of 0)) None

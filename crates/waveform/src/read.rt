@@ -2,22 +2,22 @@
 ghost use Rattle.std.specs.Prelude.{◌≡◌, ◌<◌};
 ghost use Rattle.verdict.specs.Refusal.{said};
 ghost use Rattle.waveform.specs.Waveform.{ReadBack};
-ghost use Rattle.waveform.specs.Passes.{seen_by, seen_in, shown_by, shown_in, least, IsNext, next_in, GoneOver};
+ghost use Rattle.waveform.specs.Passes.{seen_by, seen_in, shown_in, least, IsNext, next_in, GoneOver};
 
 use crate::Waveform;
 use crate::lines::{header, time_line};
 use crate::signals::{Signal, Signals};
 use verdict::{Fault, Refusal, zeroed};
 
-// The value of a signal in a clock, and the text behind its line.
+// What the text says of a signal in a clock, or of all three, and the text behind its lines.
 #[derive(Clone, Copy)]
-struct Seen<'a> {
-    value: bool,
+struct Seen<'a, T> {
+    value: T,
     rest: &'a [u8],
 }
 
 // A signal keeps its value where no line says another. At clock 1 a line that says the same counts too.
-fn see<'a>(text: &'a [u8], signal: Signal, old: bool, first: bool) -> Seen<'a>
+fn see<'a>(text: &'a [u8], signal: Signal, old: bool, first: bool) -> Seen<'a, bool>
     ensures { seen_by result ≡ seen_in text.now signal old first }
 {
     if let Some(rest) = text.strip_prefix(&signal.line(!old)) {
@@ -34,22 +34,15 @@ fn see<'a>(text: &'a [u8], signal: Signal, old: bool, first: bool) -> Seen<'a>
     }
 }
 
-// The signals of a clock, and the text behind its lines.
-#[derive(Clone, Copy)]
-struct Shown<'a> {
-    signals: Signals,
-    rest: &'a [u8],
-}
-
 // The signals are fields, and their order is the text's, so that three calls are plainer than a loop.
-fn see_all<'a>(text: &'a [u8], old: Signals, first: bool) -> Shown<'a>
-    ensures { shown_by result ≡ shown_in text.now old first }
+fn see_all<'a>(text: &'a [u8], old: Signals, first: bool) -> Seen<'a, Signals>
+    ensures { seen_by result ≡ shown_in text.now old first }
 {
     let level = see(text, Signal::Level, old.level, first);
     let enable = see(level.rest, Signal::Enable, old.enable, first);
     let contention = see(enable.rest, Signal::Contention, old.contention, first);
-    Shown {
-        signals: Signals {
+    Seen {
+        value: Signals {
             level: level.value,
             enable: enable.value,
             contention: contention.value,
@@ -75,7 +68,7 @@ fn what_follows<'a>(
     text: &'a [u8],
     clock: usize,
     old: Signals,
-) -> Result<Option<Shown<'a>>, Refusal>
+) -> Result<Option<Seen<'a, Signals>>, Refusal>
     ensures { IsNext (next_in text.now clock old) result }
 {
     let first = clock == 1;
@@ -85,8 +78,8 @@ fn what_follows<'a>(
         if first {
             return Err(Fault::WrongText.at(0));
         }
-        return Ok(Some(Shown {
-            signals: old,
+        return Ok(Some(Seen {
+            value: old,
             rest: text,
         }));
     };
@@ -113,8 +106,8 @@ fn read_clocks(text: &[u8], flags: &mut [u8; Waveform::MOST]) -> Result<usize, R
         let Some(shown) = what_follows(rest, i + 1, old)? else {
             return Ok(i);
         };
-        *place = u8::from(shown.signals);
-        old = shown.signals;
+        *place = u8::from(shown.value);
+        old = shown.value;
         rest = shown.rest;
     }
     match what_follows(rest, Waveform::MOST + 1, old)? {

@@ -8,7 +8,7 @@ use borrow.Author.Rules.{rules}
 use Rattle.std.specs.Prelude.{Err}
 use Rattle.verdict.specs.Refusal.{Done}
 use Rattle.frame.specs.Steps.{most_steps}
-use Rattle.waveform.specs.Passes.{shown_by, GoneOver}
+use Rattle.waveform.specs.Passes.{seen_by, GoneOver}
 use Rattle.waveform.proofs.Starts.{asked}
 use Rattle.waveform.proofs.GoingOver.{no_header, goes_first, closes, ends, runs-out, goes_on}
 use Rattle.waveform.proofs.read.read_clocks.Goals as goal
@@ -41,7 +41,7 @@ returns-in_default-2 c =
 pub loop-i-preserved : goal.loop-i-preserved
 loop-i-preserved c =
     let next = rw c.in-Some-2.is at c.in_ok-shown.ensures in (
-      goes_on c.args.text.now c.loop-i.invariant.0 (omega (arith, c.loop-i-test.true, c.loop-i.invariant.1, c.told-flags)) (omega (arith, c.loop-i-test.true)) (shown_by c.in-Some-2.shown) next _ (search rules),
+      goes_on c.args.text.now c.loop-i.invariant.0 (omega (arith, c.loop-i-test.true, c.loop-i.invariant.1, c.told-flags)) (omega (arith, c.loop-i-test.true)) (seen_by c.in-Some-2.shown) next _ (search rules),
       length-set c.loop-i.flags c.loop-i.i _ ∙ c.loop-i.invariant.1,
     )
 
@@ -63,4 +63,4 @@ pub returns-in-Some-3 : goal.returns-in-Some-3
 returns-in-Some-3 c =
     let last = behind-last c.loop-i-test.false c.loop-i.auto.i-end in
     rw c.at-in-Some-3.ensures
-    (runs-out c.args.text.now c.loop-i.invariant.0 (omega (arith, last)) (shown_by c.in-Some-3.field-0) (rw last (rw c.in-Some-3.is at c.in_ok-what_follows.ensures)) c.loop-i.flags)
+    (runs-out c.args.text.now c.loop-i.invariant.0 (omega (arith, last)) (seen_by c.in-Some-3.field-0) (rw last (rw c.in-Some-3.is at c.in_ok-what_follows.ensures)) c.loop-i.flags)

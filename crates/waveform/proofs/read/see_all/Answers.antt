@@ -9,9 +9,9 @@ use Rattle.waveform.specs.Passes.{Seen, seen_in, Shown, shown_in}
 use Rattle.waveform.proofs.read.see_all.Goals as goal
 
 -- three that are seen in turn are what the clock shows
-three : (text : List ℕ) (old : Signals) (first : Bool) (l e c : Seen) →
+three : (text : List ℕ) (old : Signals) (first : Bool) (l e c : Seen Bool) →
     l ≡ seen_in text Level old.level first → e ≡ seen_in l.rest Enable old.enable first → c ≡ seen_in e.rest Contention old.contention first →
-    ◌≡◌ {A = Shown} (record { signals = record { level = l.value; enable = e.value; contention = c.value }; rest = c.rest }) (shown_in text old first)
+    ◌≡◌ {A = Shown} (record { value = record { level = l.value; enable = e.value; contention = c.value }; rest = c.rest }) (shown_in text old first)
 unfolding shown_in
 three text old first l e c level enable contention = rw (← level, ← enable, ← contention)
 
