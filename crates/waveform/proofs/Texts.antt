@@ -9,7 +9,6 @@ use lib.Arith.{mod-mul}
 use lib.ListN.{length, drop, length-append}
 use lib.Dec.{eqb, ltb}
 use borrow.Author.Tests.{ne_eqb, ltb-true}
-use mir.Val.{bool_byte}
 use Rattle.waveform.specs.declared.signals.Signal.{Signal}
 use Rattle.waveform.specs.declared.signals.Signal.TheVariants.{Level, Enable, Contention}
 use Rattle.waveform.specs.Text.{ascii, digits, places, time_line, starts_with}
@@ -93,20 +92,6 @@ line-is Contention false = refl
 
 pub length-line : (signal : Signal) (value : Bool) → length (line_of signal value) ≡ 3
 length-line signal value = rw line-is
-
--- so the code makes it
-pub line-bytes : (signal : Signal) (value : Bool) (identifier : ℕ) → identifier ≡ letter signal → (48 + bool_byte value) ∷ identifier ∷ 10 ∷ [] ≡ line_of signal value
-line-bytes signal true identifier is = rw (is, line-is signal true)
-line-bytes signal false identifier is = rw (is, line-is signal false)
-
-pub line_of_level : (value : Bool) → (48 + bool_byte value) ∷ 76 ∷ 10 ∷ [] ≡ line_of Level value
-line_of_level value = line-bytes Level value 76 refl
-
-pub line_of_enable : (value : Bool) → (48 + bool_byte value) ∷ 69 ∷ 10 ∷ [] ≡ line_of Enable value
-line_of_enable value = line-bytes Enable value 69 refl
-
-pub line_of_contention : (value : Bool) → (48 + bool_byte value) ∷ 67 ∷ 10 ∷ [] ≡ line_of Contention value
-line_of_contention value = line-bytes Contention value 67 refl
 
 -- it says one value only,
 pub other-value : (signal : Signal) (value : Bool) (more : List ℕ) → starts_with (line_of signal (not value)) (line_of signal value ++ more) ≡ false

@@ -1,8 +1,6 @@
 -- What the parts of `write_vcd` and `read_vcd` promise each other.
 use Rattle.std.specs.Prelude.{ℕ, zero, suc, ◌+◌, ◌-◌, ◌*◌, ◌≤◌, ◌≡◌, Bool, not, ◌&&◌, cond, List, [], ◌∷◌, ◌++◌, map, length, take, drop, eqb, ltb, Result, Ok, Err, Option, Some, None}
-use Rattle.verdict.specs.Refusal.{Verdict}
-use Rattle.verdict.specs.Refusal.{Done, Refused}
-use Rattle.verdict.specs.Refusal.{wrong_text, refusal_at}
+use Rattle.verdict.specs.Refusal.{Verdict, Done, Refused, wrong_text, refusal_at}
 use Rattle.verdict.specs.declared.Refusal.{Refusal}
 use Rattle.verdict.specs.declared.Fault.TheVariants.{WrongText}
 use Rattle.verdict.specs.File.{byte_at, records}
@@ -26,6 +24,7 @@ HasRoom out more = out.at + length more ≤ length out.text.now
 abbrev pub put : ℕ → List ℕ → List ℕ → List ℕ
 put at more text = take at text ++ more ++ drop (at + length more) text
 
+-- what a put leaves: the same text, with more behind what was there
 pub record Puts (out : Output) (more : List ℕ) (out' : Output) : Type 0 where
   pub same_text : out'.text.ghost_name ≡ out.text.ghost_name
   pub behind : out'.at ≡ out.at + length more

@@ -39,7 +39,8 @@ pub(crate) fn places(clock: usize) -> usize
     }
 }
 
-// The line of a time, of as many bytes as the clock's number asks for, at the end of the room that is lent for it.
+// The line of a time, of as many bytes as the clock's number asks for, at the end of the room that is lent for it. Its digits are made here:
+// `write!` would write them one by one to a formatter, at each of 4,160 clocks.
 pub(crate) fn time_line(clock: usize, room: &mut [u8; Waveform::LONGEST_TIME]) -> &[u8]
     ensures { result.now ≡ time_line clock }
 {

@@ -73,7 +73,8 @@ fn time_size(number: usize) -> usize
     2 + places(number)
 }
 
-// A text to write to, and the place behind what is put there so far.
+// A text to write to, and the place behind what is put there so far. It is a place and not the rest of the slice, since what is promised
+// speaks of the whole text.
 #[derive(Drop)]
 struct Output<'a> {
     text: &'a mut [u8],
