@@ -39,8 +39,8 @@ pub(crate) fn places(clock: usize) -> usize
     }
 }
 
-// The line of a time, of as many bytes as the clock's number asks for, at the end of the room that is lent for it. Its digits are made here:
-// `write!` would write them one by one to a formatter, at each of 4,160 clocks.
+// The line of a time, of as many bytes as the clock's number asks for, at the end of the room that is lent for it. Its digits are made here, one
+// by one as `digits` in specs/ says them, and not by `write!`: so they are an array at once, with no formatter between.
 pub(crate) fn time_line(clock: usize, room: &mut [u8; Waveform::LONGEST_TIME]) -> &[u8]
     ensures { result.now ≡ time_line clock }
 {
