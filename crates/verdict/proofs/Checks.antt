@@ -9,8 +9,9 @@ use native.Mathlib.Decide.{ℕ_discrete}
 use lib.ListN.{length}
 use lib.Dec.{eqb, ltb}
 use borrow.Author.Tests.{eqb-true, eqb-false, ltb-true, ltb-false, eq-eqb, le-ltb}
+use Rattle.std.proofs.Math.Nat.{mod-one, div-one}
 use Rattle.verdict.specs.Refusal.{Verdict, Done, Refused, wrong_length, too_many, ◌when◌, refuse, and_then}
-use Rattle.verdict.specs.File.{records, in_order, file_verdict, byte_fault, bytes_verdict}
+use Rattle.verdict.specs.File.{records, counting, in_order, file_verdict, byte_fault, bytes_verdict}
 
 module _ (fault : ℕ → ℕ) (v : Verdict) where
   -- a record that passes: the rest decides
@@ -185,6 +186,51 @@ module _ (size most : ℕ) (fault : ℕ → ℕ) (file : List ℕ) where
           rw (← number, ← index) (too_many_lem (eqb-true _ 0 p) (ltb-true most _ q))
       go true false p q e = at-record (eqb-true _ 0 p) (ltb-false most _ q) (refused-first fault (records size file) 0 (records size file) c j e)
 
+-- The count of a size above 0 makes the two checks
+pub counting-some : (size most : ℕ) (file : List ℕ) → (size ≡ 0 → ⊥)
+    → counting size most file ≡ refuse (wrong_length when not (eqb (length file % size) 0)) 0 (refuse (too_many when ltb most (records size file)) 0 (Done (records size file)))
+unfolding counting
+counting-some zero most file some = absurd (some refl)
+counting-some (suc size) most file some = refl
+
+-- the records that are counted are checked in order
+in_turn : (ℕ → ℕ) → ℕ → Verdict
+in_turn fault n = in_order fault 0 n (Done n)
+
+module _ (fault : ℕ → ℕ) (size most : ℕ) (file : List ℕ) (some : 0 < size) where
+  -- "1, 2, then records in order": a whole file's verdict goes on from its count
+  counted-first : file_verdict size most fault file ≡ and_then (counting size most file) (in_turn fault)
+  unfolding file_verdict in_turn
+  counted-first =
+      rw (counting-some size most file (λ none. omega (arith, some, none)))
+      (go (eqb (length file % size) 0) (ltb most (records size file)) (records size file))
+    where
+      go : (whole many : Bool) (n : ℕ) → refuse (wrong_length when not whole) 0 (refuse (too_many when many) 0 (in_turn fault n)) ≡ and_then (refuse (wrong_length when not whole) 0 (refuse (too_many when many) 0 (Done n))) (in_turn fault)
+      go false many n = refl
+      go true true n = refl
+      go true false n = refl
+
+  -- where the count refuses, the file is refused the same
+  pub count-refused : {c j : ℕ} → Refused c j ≡ counting size most file → Refused c j ≡ file_verdict size most fault file
+  count-refused e = ap (λ v. and_then v (in_turn fault)) e ∙ sym counted-first
+
+  -- and where it is done, the records are next
+  pub count-done : {n : ℕ} → Done n ≡ counting size most file → file_verdict size most fault file ≡ in_order fault 0 n (Done n)
+  unfolding in_turn
+  count-done e = counted-first ∙ ap (λ v. and_then v (in_turn fault)) (sym e)
+
+-- a count that is done: a whole number of records, few enough
+pub record Counted (size most : ℕ) (file : List ℕ) (n : ℕ) : Type 0 where
+  pub whole : length file % size ≡ 0
+  pub count : n ≡ records size file
+  pub allowed : n ≤ most
+
+pub counted : {size most : ℕ} {file : List ℕ} {n : ℕ} → 0 < size → Done n ≡ counting size most file → Counted size most file n
+counted {size} {most} {file} {n} some e =
+    let passes = count-done (λ k. 0) size most file some e ∙ all-pass-done (λ k. 0) (Done n) 0 n (λ i f l. refl) in
+    let good = accepted size most (λ k. 0) file n passes in
+    record { whole = good.whole; count = good.count; allowed = good.allowed }
+
 -- A file of single bytes
 module _ (most largest number : ℕ) (file : List ℕ) where
   -- one that passes: as many bytes as there are, few enough, and each of them
@@ -202,6 +248,11 @@ module _ (most largest number : ℕ) (file : List ℕ) where
       go false p e =
           let pass = done-all-pass (byte_fault largest number file) (length file) 0 (length file) n e in
           record { count = sym pass.0; few = ltb-false most (length file) p; each = λ i h. pass.1 i (omega arith) (omega arith) }
+
+  -- they are records of one byte
+  pub bytes-records : bytes_verdict most largest number file ≡ file_verdict 1 most (byte_fault largest number file) file
+  unfolding bytes_verdict file_verdict
+  bytes-records = rw (mod-one, div-one)
 
   -- and the other way round
   pub bytes-done : length file ≤ most → ((i : ℕ) → i < length file → byte_fault largest number file i ≡ 0) → bytes_verdict most largest number file ≡ Done (length file)

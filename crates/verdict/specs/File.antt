@@ -14,6 +14,14 @@ word_at file i = byte_at file i * 256 + byte_at file (i + 1)
 abbrev pub records : ℕ → List ℕ → ℕ
 records size file = length file / size
 
+-- "In a file: 1, 2": a whole number of records, and no more than allowed; done says how many there are. Of size 0 there are none.
+unfoldable pub counting : ℕ → ℕ → List ℕ → Verdict
+counting zero most file = Done 0
+counting (suc size) most file =
+    refuse (wrong_length when not (eqb (length file % suc size) 0)) 0
+    (refuse (too_many when ltb most (records (suc size) file)) 0
+    (Done (records (suc size) file)))
+
 -- "records in order": the records from index k on, of which there are `left`; `fault` is what the checks find of a record
 unfoldable pub in_order : (ℕ → ℕ) → ℕ → ℕ → Verdict → Verdict
 in_order fault k zero v = v

@@ -3,7 +3,7 @@
 
 ghost use Rattle.std.specs.Prelude.{◌≡◌, ◌≤◌, length, take};
 ghost use Rattle.std.specs.Io.KnownBytes.{Consumes};
-ghost use Rattle.verdict.specs.File.{byte_at, word_at, bytes_verdict};
+ghost use Rattle.verdict.specs.File.{byte_at, word_at, counting, bytes_verdict};
 ghost use Rattle.verdict.specs.Output.{zeros};
 ghost use Rattle.verdict.specs.Refusal.{said, number_of, refusal_at};
 
@@ -71,14 +71,29 @@ pub fn word_at(file: &[u8], i: usize) -> u16
     }
 }
 
+// How many records of a size a file has: 1 where it is no whole number of them, 2 where there are more than `most`. Of size 0 there
+// are none.
+pub fn count_records(file: &[u8], size: usize, most: usize) -> Result<usize, Refusal>
+    ensures { said result ≡ counting size most file.now }
+{
+    if size == 0 {
+        return Ok(0);
+    }
+    if file.len() % size != 0 {
+        return Err(Fault::WrongLength.at(0));
+    }
+    let count = file.len() / size;
+    if most < count {
+        return Err(Fault::TooMany.at(0));
+    }
+    Ok(count)
+}
+
 // The checks of a file of single bytes: not over `most` of them, and none over `largest`, which is this fault.
 pub fn check_bytes(file: &[u8], most: usize, largest: u8, fault: Fault) -> Result<usize, Refusal>
     ensures { said result ≡ bytes_verdict most largest (number_of fault) file.now }
 {
-    let count = file.len();
-    if most < count {
-        return Err(Fault::TooMany.at(0));
-    }
+    let count = count_records(file, 1, most)?;
     for (k, byte) in file.iter().enumerate() {
         if largest < *byte {
             return Err(fault.at(k));

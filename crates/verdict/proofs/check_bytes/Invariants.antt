@@ -1,10 +1,12 @@
 -- The bytes are asked in order, and the first over the largest refuses.
 use Prim.Native.Nat.{◌-◌}
 use mathlib.Core.Path.{◌≡◌}
+use lib.ListN.{length}
 use Rattle.verdict.specs.Refusal.{Done, number_of}
 use Rattle.verdict.specs.File.{in_order, byte_fault, bytes_verdict}
 use Rattle.verdict.proofs.check_bytes.Given as goal
 
 abbrev pub invariant-loop-k : goal.invariant-loop-k
 invariant-loop-k l =
-    bytes_verdict l.most l.largest (number_of l.fault) l.file ≡ in_order (byte_fault l.largest (number_of l.fault) l.file) l.k (l.count - l.k) (Done l.count)
+    (l.count ≡ length l.file)
+    × (bytes_verdict l.most l.largest (number_of l.fault) l.file ≡ in_order (byte_fault l.largest (number_of l.fault) l.file) l.k (l.count - l.k) (Done l.count))
