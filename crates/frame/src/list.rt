@@ -3,7 +3,7 @@ ghost use Rattle.std.specs.Prelude.{◌≡◌};
 ghost use Rattle.verdict.specs.Refusal.{said, judged, finding};
 ghost use Rattle.frame.specs.List.{transaction_at, fault_of, parsed, list_verdict};
 
-use verdict::{Fault, Refusal, byte_at, word_at};
+use verdict::{Fault, Refusal, byte_at, count_records, word_at};
 
 // The op is a byte of a file and no enum: `transaction_at`, `step` and `answer` promise what they give for every byte.
 #[derive(Clone, Copy, Default)]
@@ -82,13 +82,7 @@ pub fn parsed_at(list: &[u8], k: usize) -> Result<Transaction, Fault>
 pub fn check_list(list: &[u8]) -> Result<usize, Refusal>
     ensures { said result ≡ list_verdict list.now }
 {
-    if list.len() % Transaction::BYTES != 0 {
-        return Err(Fault::WrongLength.at(0));
-    }
-    let count = list.len() / Transaction::BYTES;
-    if count > Transaction::MOST {
-        return Err(Fault::TooMany.at(0));
-    }
+    let count = count_records(list, Transaction::BYTES, Transaction::MOST)?;
     for k in 0..count {
         // Each parse is taken apart by `let .. else`, a rule of document 01; the fault is then had from the same local.
         let record = parsed_at(list, k);
