@@ -8,7 +8,7 @@ ghost use Rattle.board.specs.Events.{event_record, event_clock, event_address, e
 
 use crate::Board;
 use phy::Event;
-use verdict::{Fault, Refusal};
+use verdict::{Fault, Refusal, count_records};
 
 // A byte of the event record at index k; past the file's end a byte reads 0.
 fn byte_of(events: &[u8], k: usize, offset: usize) -> u8
@@ -84,17 +84,10 @@ fn judge_event(there: bool, events: &[u8], last: usize, k: usize, before: u16) -
 }
 
 // The event file's checks on a board, where `last` is the last clock.
-#[tactic(auto, unfolding(verdict::specs::File::file_verdict))]
 pub fn check_events(board: Board, events: &[u8], last: usize) -> Result<usize, Refusal>
     ensures { said result ≡ events_verdict board events.now last }
 {
-    if events.len() % Board::EVENT_RECORD != 0 {
-        return Err(Fault::WrongLength.at(0));
-    }
-    let count = events.len() / Board::EVENT_RECORD;
-    if Board::MOST_EVENTS < count {
-        return Err(Fault::TooMany.at(0));
-    }
+    let count = count_records(events, Board::EVENT_RECORD, Board::MOST_EVENTS)?;
     let addresses = addresses_of(board);
     let there = table_of(&addresses[..board.count.min(Board::PLACES)]);
     let mut before: u16 = 0;

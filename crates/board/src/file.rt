@@ -10,7 +10,7 @@ ghost use Rattle.board.specs.Record.{record_in};
 use crate::record::Record;
 use crate::{Board, Outcome, register, sound};
 use phy::{Own, Phy};
-use verdict::{Fault, Refusal};
+use verdict::{Refusal, count_records};
 
 // The 32 words from a place of the file on, high byte first.
 #[tactic(auto, unfolding(crate::specs::Load::words_at, verdict::specs::Output::tabulate))]
@@ -66,19 +66,16 @@ fn refused(refusal: Refusal, phys: [Phy; 32]) -> Outcome
 }
 
 // The board that a board file says.
-#[tactic(auto, unfolding(crate::specs::Load::loaded, verdict::specs::File::file_verdict))]
+#[tactic(auto, unfolding(crate::specs::Load::loaded))]
 pub fn load(file: &[u8]) -> Outcome
     ensures { told result ≡ loaded file.now }
 {
     let blank = sound::blank();
     let mut phys = [blank; 32];
-    if file.len() % Board::RECORD != 0 {
-        return refused(Fault::WrongLength.at(0), phys);
-    }
-    let count = file.len() / Board::RECORD;
-    if Board::PLACES < count {
-        return refused(Fault::TooMany.at(0), phys);
-    }
+    let count = match count_records(file, Board::RECORD, Board::PLACES) {
+        Ok(count) => count,
+        Err(refusal) => return refused(refusal, phys),
+    };
     // Which addresses the records before have.
     let mut taken = [false; 256];
     for k in 0..count {

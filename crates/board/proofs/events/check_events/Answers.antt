@@ -2,15 +2,17 @@
 use Prim.Native.Nat.{ℕ, ◌+◌, ◌*◌, min, ◌<◌}
 use mathlib.Core.Bool.{Bool, false}
 use mathlib.Core.List.{List}
-use mathlib.Core.Path.{◌≡◌, ap, sym, ◌∙◌}
+use mathlib.Core.Path.{◌≡◌, refl, ap, sym, ◌∙◌}
 use native.Mathlib.Omega.{arith}
+use native.Mathlib.Nat.{sub-zero}
+use Rattle.std.specs.Prelude.{Err}
 use native.Mathlib.Numerals.{add-one}
 use lib.Dec.{eqb}
 use lib.ListN.{length, get_or, take}
 use borrow.Author.Rules.{rules}
 use Rattle.verdict.specs.Refusal.{Refused, Good, judged, judged_by, refusal_of}
 use Rattle.verdict.specs.File.{byte_at, file_verdict}
-use Rattle.verdict.proofs.Checks.{next, stop, finish}
+use Rattle.verdict.proofs.Checks.{count-refused, count-done, next, stop, finish}
 use Rattle.verdict.proofs.Faults.{some_number}
 use Rattle.phy.specs.Record.{any}
 use Rattle.board.specs.declared.Board.{Board}
@@ -32,6 +34,14 @@ on-board board events last addresses there places bytes all table =
     ∙ rw all (among-first board.phys (min board.count 32) (event_address events k) (omega arith)) in
     λ i. file_verdict 4 256 (λ k. event_fault_as (sym (told k) i) events last k) events
 
+pub returns-in_err-count : goal.returns-in_err-count
+returns-in_err-count c =
+    let handed_on : c.from_residual.result ≡ Err c.in_err-count.field-0.0 = search rules in
+    rw handed_on (count-refused _ _ _ _ (omega arith) c.in_err-count.ensures)
+
+pub loop-k-init : goal.loop-k-init
+loop-k-init c = (refl, rw sub-zero (count-done _ _ _ _ (omega arith) c.in_ok-count.ensures))
+
 pub returns-in_default : goal.returns-in_default
 returns-in_default c =
     let events = c.args.events.now in
@@ -41,7 +51,7 @@ returns-in_default c =
     let whole = on-board c.args.board events c.args.last _ there (search rules) (λ i. omega (arith, c.type_inv.events i)) c.addresses_of-addresses.ensures (rw c.min.ensures at c.table_of-there.ensures) in
     let found = ap judged (sym c.unwrap_err.ensures) ∙ (rw c.address_of-address.ensures at c.judge_event-event.ensures) in
     let number = ap refusal_of found ∙ refusal-judged (fault k) (event_clock events k) in
-    rw c.at-in_default.ensures
+    rw c.at.ensures
     (ap (λ f. Refused f k) number ∙ sym (whole ∙ c.loop-k.invariant.1 ∙ stop fault _ _ k (search rules) (λ none. some_number c.unwrap_err.result (number ∙ none))))
 
 pub loop-k-preserved : goal.loop-k-preserved

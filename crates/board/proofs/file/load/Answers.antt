@@ -1,16 +1,15 @@
 -- The records are asked in order; each that passes fills the next place, and the first at fault refuses.
-use Prim.Native.Nat.{ℕ, ◌*◌, ◌/◌, ◌<◌}
+use Prim.Native.Nat.{ℕ, ◌*◌, ◌<◌}
 use mathlib.Core.Bool.{Bool, true}
 use mathlib.Core.List.{List}
 use mathlib.Core.Path.{◌≡◌, ap, ap₂, sym, ◌∙◌}
 use native.Mathlib.Omega.{arith}
 use native.Mathlib.Nat.{sub-zero}
-use lib.ListN.{length, set, replicate}
-use borrow.Author.Tests.{eq-eqb, le-ltb}
-use Rattle.verdict.specs.Refusal.{Verdict, Done, number_of, finding}
-use Rattle.verdict.specs.File.{file_verdict}
+use lib.ListN.{set, replicate}
+use Rattle.verdict.specs.Refusal.{Verdict}
+use Rattle.verdict.specs.Refusal.{Done, number_of, finding}
 use Rattle.verdict.specs.Output.{tabulate}
-use Rattle.verdict.proofs.Checks.{next, stop, finish}
+use Rattle.verdict.proofs.Checks.{count-refused, counted, count-done, next, stop, finish}
 use Rattle.verdict.proofs.Outputs.{fill}
 use Rattle.verdict.proofs.Faults.{some_number}
 use Rattle.phy.specs.Fields.{PhyRecord}
@@ -21,9 +20,16 @@ use Rattle.board.proofs.Loading.{found-fault, found-phy}
 use borrow.Author.Rules.{rules}
 use Rattle.board.proofs.file.load.Goals as goal
 
+pub returns-in-Err : goal.returns-in-Err
+unfolding loaded
+returns-in-Err c =
+    let file = c.args.file.now in
+    c.refused.ensures ∙ ap (λ (v : Verdict). loaded_by v file) (count-refused (record_fault file) 134 32 file (omega arith) c.in-Err.ensures)
+
 pub loop-k-init : goal.loop-k-init
-unfolding file_verdict tabulate
-loop-k-init c = (rw c.blank-blank.ensures, taken_none _, rw (eq-eqb _ 0 c.if-file-ne0.false, le-ltb 32 _ c.if-count-gt-PLACES.false, sub-zero))
+unfolding tabulate
+loop-k-init c =
+    (rw c.blank-blank.ensures, taken_none _, rw sub-zero (count-done _ _ _ _ (omega arith) c.in-Ok.ensures), counted (omega arith) c.in-Ok.ensures)
 
 pub returns-in_default : goal.returns-in_default
 unfolding loaded
@@ -36,7 +42,7 @@ returns-in_default c =
     let number : number_of c.unwrap_err.result ≡ fault k =
     ap finding (sym c.unwrap_err.ensures) ∙ c.check-checked.ensures ∙ found-fault file k _ c.at-record.ensures loop.taken loop.invariant.1 byte in
     let refuses = loop.invariant.2 ∙ stop fault _ _ k (search rules) (λ none. some_number c.unwrap_err.result (number ∙ none)) in
-    (rw c.at-in_default.ensures at c.refused-in_default.ensures)
+    (rw c.at.ensures at c.refused-in_default.ensures)
     ∙ ap (λ f. refused_load f k) number
     ∙ sym (ap (λ (v : Verdict). loaded_by v file) refuses)
 
@@ -46,15 +52,16 @@ loop-k-preserved c =
     let loop = c.loop-k in
     let k = loop.k in
     let fault = record_fault file in
-    let within : k < 32 = omega (arith, c.loop-k-test.true, c.if-count-gt-PLACES.false) in
+    let within : k < 32 = omega (arith, c.loop-k-test.true, loop.invariant.3.allowed) in
     let byte : address_at file k < 256 = omega (arith, c.type_inv.file (k * 134)) in
     let address = ap (λ (r : PhyRecord). r.own.address) c.at-record.ensures in
     let passes : fault k ≡ 0 =
-    sym (found-fault file k _ c.at-record.ensures loop.taken loop.invariant.1 byte) ∙ sym c.check-checked.ensures ∙ ap finding c.in-Ok.is in
+    sym (found-fault file k _ c.at-record.ensures loop.taken loop.invariant.1 byte) ∙ sym c.check-checked.ensures ∙ ap finding c.in-Ok-checked.is in
     let phy = c.fresh.ensures ∙ found-phy file k _ c.at-record.ensures in (
       fill (phy_at file) (replicate 32 blank) loop.phys k _ within loop.invariant.0 phy,
       ap₂ (λ (table : List Bool) (a : ℕ). set table a true) loop.invariant.1 address ∙ taken_next (address_at file) k byte,
       loop.invariant.2 ∙ next fault _ _ k (search rules) passes,
+      loop.invariant.3,
     )
 
 pub returns : goal.returns
@@ -62,6 +69,6 @@ unfolding loaded board_of
 returns c =
     let file = c.args.file.now in
     let turn = c.loop-k in
-    let all : turn.k ≡ length file / 134 = omega arith in
-    let done : board_verdict file ≡ Done (length file / 134) = turn.invariant.2 ∙ finish _ _ _ _ c.loop-k-test.false in
+    let all : turn.k ≡ c.in-Ok.count = omega arith in
+    let done : board_verdict file ≡ Done c.in-Ok.count = turn.invariant.2 ∙ finish _ _ _ _ c.loop-k-test.false in
     rw (done, rw all at turn.invariant.0)

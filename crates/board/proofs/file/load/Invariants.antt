@@ -4,6 +4,7 @@ use mathlib.Core.Path.{◌≡◌}
 use lib.ListN.{replicate}
 use Rattle.verdict.specs.Refusal.{Done}
 use Rattle.verdict.specs.File.{in_order}
+use Rattle.verdict.proofs.Checks.{Counted}
 use Rattle.verdict.proofs.Outputs.{filled}
 use Rattle.phy.specs.Sound.{blank}
 use Rattle.board.specs.Record.{taken_by}
@@ -15,3 +16,4 @@ invariant-loop-k l =
     (l.phys ≡ filled (phy_at l.file) (replicate 32 blank) l.k)
     × (l.taken ≡ taken_by (address_at l.file) l.k)
     × (board_verdict l.file ≡ in_order (record_fault l.file) l.k (l.count - l.k) (Done l.count))
+    × Counted 134 32 l.file l.count
