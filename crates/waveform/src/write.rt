@@ -12,7 +12,7 @@ use crate::Waveform;
 use crate::lines::{header, places, time_line};
 use crate::signals::{Signal, Signals};
 use frame::Frame;
-use verdict::{Fault, Refusal};
+use verdict::{Fault, Refusal, count_records};
 
 // A clock of a log: its number, and the signals of the clock before it and its own.
 #[derive(Clone, Copy)]
@@ -159,12 +159,7 @@ fn text_size(log: &[u8]) -> usize
 pub fn write_vcd(log: &[u8], text: &mut [u8]) -> Result<usize, Refusal>
     ensures { Written log.now text.old (said result) text.new }
 {
-    if log.len() % Frame::LOG_RECORD != 0 {
-        return Err(Fault::WrongLength.at(0));
-    }
-    if Waveform::MOST < log.len() / Frame::LOG_RECORD {
-        return Err(Fault::TooMany.at(0));
-    }
+    count_records(log, Frame::LOG_RECORD, Waveform::MOST)?;
     let room = text.len();
     if room < Waveform::LONGEST && room < text_size(log) {
         return Err(Fault::NoRoom.at(0));
