@@ -239,24 +239,19 @@ module _ (most largest number : ℕ) (file : List ℕ) where
     pub few : length file ≤ most
     pub each : (i : ℕ) → i < length file → byte_fault largest number file i ≡ 0
 
-  pub passed-bytes : (n : ℕ) → bytes_verdict most largest number file ≡ Done n → BytesPass n
-  unfolding bytes_verdict
-  passed-bytes n e = go (ltb most (length file)) refl e
-    where
-      go : (b : Bool) → ltb most (length file) ≡ b → refuse (too_many when b) 0 (in_order (byte_fault largest number file) 0 (length file) (Done (length file))) ≡ Done n → BytesPass n
-      go true p e = absurd (let z : ◌≡◌ {A = ℕ} 0 1 = cc in omega arith)
-      go false p e =
-          let pass = done-all-pass (byte_fault largest number file) (length file) 0 (length file) n e in
-          record { count = sym pass.0; few = ltb-false most (length file) p; each = λ i h. pass.1 i (omega arith) (omega arith) }
-
   -- they are records of one byte
   pub bytes-records : bytes_verdict most largest number file ≡ file_verdict 1 most (byte_fault largest number file) file
   unfolding bytes_verdict file_verdict
   bytes-records = rw (mod-one, div-one)
 
+  pub passed-bytes : (n : ℕ) → bytes_verdict most largest number file ≡ Done n → BytesPass n
+  passed-bytes n e =
+      let good = accepted 1 most (byte_fault largest number file) file n (sym bytes-records ∙ e) in
+      let count = good.count ∙ div-one _ in
+      record { count = count; few = omega (arith, count, good.allowed); each = λ i h. good.all_pass i (omega (arith, count)) }
+
   -- and the other way round
   pub bytes-done : length file ≤ most → ((i : ℕ) → i < length file → byte_fault largest number file i ≡ 0) → bytes_verdict most largest number file ≡ Done (length file)
-  unfolding bytes_verdict
   bytes-done few each =
-      rw (le-ltb most (length file) few)
-      (all-pass-done (byte_fault largest number file) (Done (length file)) 0 (length file) (λ i h l. each i (omega arith)))
+      bytes-records
+      ∙ accepts 1 most (byte_fault largest number file) file (length file) (record { whole = mod-one _; count = sym (div-one _); allowed = few; all_pass = each })
