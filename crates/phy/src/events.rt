@@ -51,15 +51,15 @@ impl Phy {
         self
     }
 
-    // A register's bits set, and cleared.
-    fn set(mut self, register: usize, bits: u16) -> Phy
-        requires { register < 32 }
-        ensures { result ≡ with_register register (bit_or (register_of register self) bits) self }
+    // Bits of register 1 set.
+    fn set_status(mut self, bits: u16) -> Phy
+        ensures { result ≡ with_register 1 (bit_or (register_of 1 self) bits) self }
     {
-        self.registers[register] |= bits;
+        self.registers[1] |= bits;
         self
     }
 
+    // A register's bits cleared.
     #[tactic(auto, using(crate::proofs::Words::and_rest))]
     fn clear(mut self, register: usize, bits: u16) -> Phy
         requires { register < 32 }
@@ -77,7 +77,7 @@ impl Phy {
         let enabled = control & Control::AUTO_NEGOTIATION_ENABLE != 0;
         let restarting = control & Control::RESTART_AUTO_NEGOTIATION != 0;
         if enabled && !restarting {
-            self.set(1, Status::AUTO_NEGOTIATION_COMPLETE)
+            self.set_status(Status::AUTO_NEGOTIATION_COMPLETE)
         } else {
             self
         }
@@ -91,8 +91,8 @@ impl Phy {
         match event {
             Event::LinkUp => self.with_link(true),
             Event::LinkDown => self.clear(1, Status::LINK_STATUS).with_link(false),
-            Event::RemoteFault => self.set(1, Status::REMOTE_FAULT),
-            Event::Jabber => self.set(1, Status::JABBER_DETECT),
+            Event::RemoteFault => self.set_status(Status::REMOTE_FAULT),
+            Event::Jabber => self.set_status(Status::JABBER_DETECT),
             Event::NegotiationComplete => self.complete(),
             Event::RestartDone => self.clear(0, Control::RESTART_AUTO_NEGOTIATION),
             Event::ResetDone => self.clear(0, Control::RESET),

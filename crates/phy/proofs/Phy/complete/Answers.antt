@@ -6,7 +6,7 @@ use Rattle.phy.proofs.Phy.complete.Goals.{else-enabled-via-then-enabled+else-not
 
 pub returns-then-not-restarting : goal.returns-then-not-restarting
 unfolding completes
-returns-then-not-restarting c = rw (one-true 12 _ c.if-enabled.true, one-false 9 _ c.if-not-restarting.true, ← or-bit 5) c.set.ensures
+returns-then-not-restarting c = rw (one-true 12 _ c.if-enabled.true, one-false 9 _ c.if-not-restarting.true, ← or-bit 5) c.set_status.ensures
 
 pub returns-else-enabled : goal.returns-else-enabled
 unfolding completes

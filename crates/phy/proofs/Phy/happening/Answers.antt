@@ -12,11 +12,11 @@ returns-in-LinkDown c = rw (c.in-LinkDown.is, ← clear-bit 2) (c.with_link-in-L
 
 pub returns-in-RemoteFault : goal.returns-in-RemoteFault
 unfolding happening
-returns-in-RemoteFault c = rw (c.in-RemoteFault.is, ← or-bit 4) c.set.ensures
+returns-in-RemoteFault c = rw (c.in-RemoteFault.is, ← or-bit 4) c.set_status.ensures
 
 pub returns-in-Jabber : goal.returns-in-Jabber
 unfolding happening
-returns-in-Jabber c = rw (c.in-Jabber.is, ← or-bit 1) c.set-in-Jabber.ensures
+returns-in-Jabber c = rw (c.in-Jabber.is, ← or-bit 1) c.set_status-in-Jabber.ensures
 
 pub returns-in-RestartDone : goal.returns-in-RestartDone
 unfolding happening
