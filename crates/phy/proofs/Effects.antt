@@ -22,7 +22,7 @@ use Rattle.phy.specs.Events.{link_up, link_down, remote_fault, jabber, negotiati
 use Rattle.phy.specs.Clock.{enough, after_header, after_frame}
 use Rattle.phy.specs.Typed.{Words, TypedWords, StatusFixed}
 use Rattle.phy.proofs.Words.{set_other, clear-other, set-lt, clear-lt, picked-lt}
-use Rattle.phy.proofs.NewBits.{control-parts}
+use Rattle.phy.proofs.NewBits.{control_parts}
 use Rattle.phy.proofs.Held.{held-others}
 
 -- an effect neither sees nor touches the line, leaves the record, keeps register 1 fixed but for its held bits, and words stay words
@@ -216,7 +216,7 @@ write_control-effect word =
     (λ phy w.
     words-set (written phy) 1 (new_status (register_of 1 phy) word)
     (words-set phy.registers 0 (control phy) w.registers
-    (control-parts (register_of 1 phy) (register_of 15 phy) (register_of 0 phy) word).1)
+    (control_parts (register_of 1 phy) (register_of 15 phy) (register_of 0 phy) word).1)
     (new_status-small word (register_of 1 phy) (w.registers.small 1))))
   where
     control : Phy → ℕ

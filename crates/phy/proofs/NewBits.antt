@@ -86,7 +86,7 @@ duplex-stored true false b h = absurd (true≢false h)
 duplex-stored false true b h = absurd (false≢true h)
 
 -- the parts that the code adds up are the new word, which fits
-pub control-parts : (status extended old word : ℕ)
+pub control_parts : (status extended old word : ℕ)
     → (bit_and word 19584
     + (bit 13 (speed_from status extended old word) * 8192 + bit 6 (speed_from status extended old word) * 64)
     + new_bit12 status word * 4096 + new_bit9 status old word * 512 + new_bit8 status extended word * 256
@@ -94,7 +94,7 @@ pub control-parts : (status extended old word : ℕ)
     ≡ new_control status extended old word)
     × (new_control status extended old word < 65536)
 unfolding new_control shift_in
-control-parts status extended old word =
+control_parts status extended old word =
     let stored = and-mask-of (14 ∷ 11 ∷ 10 ∷ 7 ∷ []) word tt in
     let b12 = new_bit12-lt status word in
     let b9 = new_bit9-lt status old word in

@@ -137,6 +137,7 @@ impl Control {
     }
 
     // Register 0 after a write that does not reset.
+    #[tactic(auto, using(crate::proofs::NewBits::control_parts))]
     pub fn written(able: Abilities, old: u16, word: u16) -> u16
         ensures { result ≡ new_control able.status able.extended old word }
     {
