@@ -8,7 +8,7 @@ use crate::Phy;
 use frame::Transaction;
 use wire::{Drive, Follower, Header};
 
-#[derive(Clone, Copy)]
+#[derive(Clone, Copy, PartialEq, Eq)]
 pub struct Own {
     pub address: u8,
     // Bit r for register r.
