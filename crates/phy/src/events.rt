@@ -101,7 +101,7 @@ impl Phy {
 
     // The PHY after the event with a number: an unknown one changes nothing, and in reset only the reset's end acts.
     #[tactic(auto, using(crate::proofs::Held::unknown_event), unfolding(crate::specs::Events::event))]
-    pub fn event(self, code: u8) -> Phy
+    pub fn event(mut self, code: u8) -> Phy
         ensures { result ≡ event code self }
     {
         let Ok(event) = Event::try_from(code) else {
@@ -110,6 +110,7 @@ impl Phy {
         if self.in_reset() && event != Event::ResetDone {
             return self;
         }
-        self.happening(event)
+        self = self.happening(event);
+        self
     }
 }

@@ -6,6 +6,7 @@ use native.Mathlib.Omega.{arith}
 use native.Mathlib.Numerals.{add-one}
 use lib.ListN.{length, drop}
 use lib.Seq.{drop-cons, drop-length}
+use borrow.Author.Tests.{ne_eqb}
 use Rattle.verdict.specs.Refusal.{Refused, Done}
 use Rattle.verdict.specs.File.{byte_at, records, counting}
 use Rattle.verdict.proofs.Lists.{length-tabulate, get_or-tabulate}

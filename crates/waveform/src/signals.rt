@@ -52,16 +52,14 @@ impl Signal {
     pub(crate) const LINE: usize = 3;
 
     // The line that says a signal's value, by the signal's identifier in the header: fixed byte strings, as document 01 wants them.
+    #[tactic(auto, unfolding(crate::specs::Signals::line_of))]
     pub(crate) fn line(self, value: bool) -> [u8; Signal::LINE]
         ensures { result ≡ line_of self value }
     {
-        match (self, value) {
-            (Signal::Level, false) => *b"0L\n",
-            (Signal::Level, true) => *b"1L\n",
-            (Signal::Enable, false) => *b"0E\n",
-            (Signal::Enable, true) => *b"1E\n",
-            (Signal::Contention, false) => *b"0C\n",
-            (Signal::Contention, true) => *b"1C\n",
+        match self {
+            Signal::Level => if value { *b"1L\n" } else { *b"0L\n" },
+            Signal::Enable => if value { *b"1E\n" } else { *b"0E\n" },
+            Signal::Contention => if value { *b"1C\n" } else { *b"0C\n" },
         }
     }
 }

@@ -6,8 +6,7 @@ use mathlib.Core.Path.{◌≡◌, ap, ap₂, sym, ◌∙◌}
 use native.Mathlib.Omega.{arith}
 use native.Mathlib.Nat.{sub-zero}
 use lib.ListN.{set, replicate}
-use Rattle.verdict.specs.Refusal.{Verdict}
-use Rattle.verdict.specs.Refusal.{Done, number_of, finding}
+use Rattle.verdict.specs.Refusal.{Verdict, Done, number_of, finding}
 use Rattle.verdict.specs.Output.{tabulate}
 use Rattle.verdict.proofs.Checks.{count-refused, counted, count-done, next, stop, finish}
 use Rattle.verdict.proofs.Outputs.{fill}
