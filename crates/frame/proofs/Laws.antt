@@ -7,7 +7,7 @@ use native.Mathlib.Omega.{arith}
 use native.Mathlib.Numerals.{add-one}
 use denote.Ref.{Bor}
 use lib.ListN.{length, get_or}
-use Rattle.verdict.specs.Refusal.{said, Verdict, Refused}
+use Rattle.verdict.specs.Refusal.{said, Refused}
 use Rattle.verdict.specs.declared.Refusal.{Refusal}
 use Rattle.std.specs.Prelude.{Result}
 use Rattle.verdict.specs.Bits.{value_of}
