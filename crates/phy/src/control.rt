@@ -52,6 +52,9 @@ impl Control {
 
     pub const THOUSAND: u16 = Control::SPEED_MSB;
 
+    // What is able and the word go to each rule as the document has them, "bit 8: fixed if only one duplex is able, else stored": a struct of both
+    // would be made once and taken apart in each.
+
     // Whether the speed that a word asks for is able.
     pub fn speed_able(able: Abilities, word: u16) -> bool
         ensures { result ≡ speed_able able.status able.extended (one 6 word) (one 13 word) }
