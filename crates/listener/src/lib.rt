@@ -10,7 +10,7 @@ ghost use Rattle.listener.specs.Listening.{Listened};
 ghost use Rattle.listener.specs.Parts.{frames_in, frames_started, frame_of};
 
 use frame::{Answer, Frame, Steps, Transaction, Turnaround};
-use verdict::{Fault, Refusal, check_bytes};
+use verdict::{Fault, Refusal, check_bytes_for};
 use wire::{Follower, Header};
 
 // What is saved: as many bytes as the longest run has clocks, each a level.
@@ -115,7 +115,7 @@ impl<'a> Iterator for Listener<'a> {
 pub fn listen(levels: &[u8], answers: &mut [u8]) -> Result<usize, Refusal>
     ensures { Listened levels.now answers.old (said result) answers.new }
 {
-    check_bytes(levels, Capture::MOST, Capture::LARGEST, Fault::WrongLevel)?;
+    check_bytes_for(levels, Capture::MOST, Capture::LARGEST, Fault::WrongLevel)?;
     let room = answers.len() / Answer::BYTES;
     if room < levels.len() / Capture::CLOCKS_EACH
         && room < (Listener { levels }).filter_map(given_by_frame).count()

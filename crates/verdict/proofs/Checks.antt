@@ -11,7 +11,7 @@ use lib.Dec.{eqb, ltb}
 use borrow.Author.Tests.{eqb-true, eqb-false, ltb-true, ltb-false, eq-eqb, le-ltb}
 use Rattle.std.proofs.Math.Nat.{mod-one, div-one}
 use Rattle.verdict.specs.Refusal.{Verdict, Done, Refused, wrong_length, too_many, ◌when◌, refuse, and_then}
-use Rattle.verdict.specs.File.{records, counting, in_order, file_verdict, byte_fault, bytes_verdict}
+use Rattle.verdict.specs.File.{byte_at, records, counting, in_order, file_verdict, byte_fault, bytes_verdict}
 
 module _ (fault : ℕ → ℕ) (v : Verdict) where
   -- a record that passes: the rest decides
@@ -255,3 +255,23 @@ module _ (most largest number : ℕ) (file : List ℕ) where
   bytes-done few each =
       bytes-records
       ∙ accepts 1 most (byte_fault largest number file) file (length file) (record { whole = mod-one _; count = sym (div-one _); allowed = few; all_pass = each })
+
+-- a file of single bytes is refused by 2, or by the number that was given
+pub bytes-number : (most largest number c j : ℕ) (file : List ℕ) → bytes_verdict most largest number file ≡ Refused c j → (c ≡ number → ⊥) → c ≡ too_many
+unfolding bytes_verdict
+bytes-number most largest number c j file e other = go (ltb most (length file)) e
+  where
+    fault : ℕ → ℕ
+    fault = byte_fault largest number file
+
+    in-bytes : Verdict
+    in-bytes = in_order fault 0 (length file) (Done (length file))
+
+    at-byte : (over : Bool) → (number when over) ≡ c → in-bytes ≡ Refused c j → ⊥
+    at-byte true is refused = other (sym is)
+    at-byte false is refused = refused-number fault (length file) 0 (length file) c j refused (sym is)
+
+    go : (many : Bool) → refuse (too_many when many) 0 in-bytes ≡ Refused c j → c ≡ too_many
+    go true refused = let by_two : 2 ≡ c = cc in sym by_two
+    go false refused =
+        absurd (at-byte (ltb largest (byte_at file j)) (refused-first fault (length file) 0 (length file) c j refused).at-fault refused)

@@ -8,7 +8,7 @@ use Rattle.std.specs.Prelude.{Result, Ok, Err}
 use Rattle.verdict.specs.declared.Fault.{Fault}
 use Rattle.verdict.specs.declared.Fault.TheVariants.{WrongLength, TooMany, WrongField, AddressUsed, WrongRegisterSet, WrongDefault, WrongOp, WrongEvent, WrongClock, NoRoom, WrongStep, NotSound, WrongLogLength, WrongLevel, WrongText}
 use Rattle.verdict.specs.declared.Refusal.{Refusal}
-use Rattle.verdict.specs.Refusal.{number_of, refusal_at, Verdict, Done, Refused, said, Judged, Good, Bad, judged}
+use Rattle.verdict.specs.Refusal.{said_by_number, number_of, refusal_at, Verdict, Done, Refused, said, Judged, Good, Bad, judged}
 
 -- every fault has a number that refuses
 pub some_number : (fault : Fault) → number_of fault ≡ 0 → ⊥
@@ -80,6 +80,18 @@ back (Err r) = ap (λ fault. Err (refusal_at fault r.index)) (by_number r.fault)
 -- two results that say the same are one result: a promise of what a result says fixes it
 pub one_result : (one other : Result ℕ Refusal) → said one ≡ said other → one ≡ other
 one_result one other same = sym (back one) ∙ ap result_saying same ∙ back other
+
+-- and so of one that gives what refuses as the number itself
+abbrev numbered_saying : Verdict → Result ℕ (ℕ × ℕ)
+numbered_saying (Done n) = Ok n
+numbered_saying (Refused c k) = Err (c, k)
+
+back_numbered : (result : Result ℕ (ℕ × ℕ)) → numbered_saying (said_by_number result) ≡ result
+back_numbered (Ok n) = refl
+back_numbered (Err r) = refl
+
+pub one_by_number : (one other : Result ℕ (ℕ × ℕ)) → said_by_number one ≡ said_by_number other → one ≡ other
+one_by_number one other same = sym (back_numbered one) ∙ ap numbered_saying same ∙ back_numbered other
 
 -- and so of what checks find
 module _ {A : Type 0} where

@@ -98,6 +98,11 @@ abbrev pub said : Result ℕ Refusal → Verdict
 said (Ok n) = Done n
 said (Err r) = Refused (number_of r.fault) r.index
 
+-- and one that gives what refuses as the number itself
+abbrev pub said_by_number : Result ℕ (ℕ × ℕ) → Verdict
+said_by_number (Ok n) = Done n
+said_by_number (Err r) = Refused r.0 r.1
+
 -- what checks find of a record: it is good, and says this, or bad with a refusal's number
 pub data Judged (A : Type 0) : Type 0 where
   Good : A → Judged A

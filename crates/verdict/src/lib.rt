@@ -5,7 +5,7 @@ ghost use Rattle.std.specs.Prelude.{◌≡◌, ◌≤◌, length, take};
 ghost use Rattle.std.specs.Io.KnownBytes.{Consumes};
 ghost use Rattle.verdict.specs.File.{byte_at, word_at, counting, bytes_verdict};
 ghost use Rattle.verdict.specs.Output.{zeros};
-ghost use Rattle.verdict.specs.Refusal.{said, number_of, refusal_at};
+ghost use Rattle.verdict.specs.Refusal.{said, said_by_number, number_of, refusal_at};
 
 use std::io::Read;
 
@@ -89,17 +89,39 @@ pub fn count_records(file: &[u8], size: usize, most: usize) -> Result<usize, Ref
     Ok(count)
 }
 
-// The checks of a file of single bytes: not over `most` of them, and none over `largest`, which is this fault.
-pub fn check_bytes(file: &[u8], most: usize, largest: u8, fault: Fault) -> Result<usize, Refusal>
-    ensures { said result ≡ bytes_verdict most largest (number_of fault) file.now }
+// The checks of a file of single bytes: not over `most` of them, and none over `largest`, which `number` refuses; 0 refuses none. It may be a
+// number that no fault has, so what refuses is said by its number too, beside the index.
+pub fn check_bytes(file: &[u8], most: usize, largest: u8, number: u8) -> Result<usize, (u8, usize)>
+    ensures { said_by_number result ≡ bytes_verdict most largest number file.now }
 {
-    let count = count_records(file, 1, most)?;
+    let count = match count_records(file, 1, most) {
+        Ok(count) => count,
+        Err(refusal) => return Err((u8::from(refusal.fault), refusal.index)),
+    };
     for (k, byte) in file.iter().enumerate() {
-        if largest < *byte {
-            return Err(fault.at(k));
+        let fault = if largest < *byte { number } else { 0 };
+        if fault != 0 {
+            return Err((fault, k));
         }
     }
     Ok(count)
+}
+
+// The same checks where the number is a fault's, so that what refuses is a fault.
+pub fn check_bytes_for(
+    file: &[u8],
+    most: usize,
+    largest: u8,
+    fault: Fault,
+) -> Result<usize, Refusal>
+    ensures { said result ≡ bytes_verdict most largest (number_of fault) file.now }
+{
+    let wrong = u8::from(fault);
+    match check_bytes(file, most, largest, wrong) {
+        Ok(count) => Ok(count),
+        Err((number, index)) if number == wrong => Err(fault.at(index)),
+        Err((_, index)) => Err(Fault::TooMany.at(index)),
+    }
 }
 
 // Room for an output: zeros. A buffer of some thousand bytes is then one word of a proof, `zeros`, and not a list.

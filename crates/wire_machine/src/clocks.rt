@@ -12,13 +12,13 @@ use crate::line::{Line, join_all, lines_of, place_in};
 use between::is_due;
 use board::{Board, Outcome, address_of, check, check_events, code_of};
 use frame::{Frame, Steps};
-use verdict::{Fault, Refusal, check_bytes};
+use verdict::{Fault, Refusal, check_bytes_for};
 
 // The steps' checks: not too many, and each one of four.
 fn check_steps(steps: &[u8]) -> Result<usize, Refusal>
     ensures { said result ≡ steps_verdict steps.now }
 {
-    check_bytes(steps, Steps::MOST, Steps::LARGEST, Fault::WrongStep)
+    check_bytes_for(steps, Steps::MOST, Steps::LARGEST, Fault::WrongStep)
 }
 
 // All clocks of a run that is not refused. A turn is an event that is due, which acts on its PHY where that stands, or else a

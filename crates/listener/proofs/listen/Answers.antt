@@ -27,7 +27,7 @@ pub returns-then-room-count : goal.returns-then-room-count
 returns-then-room-count c =
     let many = counted _ c.filter_map.result _ c.count.ensures.ran c.filter_map.ensures.source c.filter_map.ensures.closure (λ frame given q call. search rules) in
     rw c.at.ensures
-    (refuses _ _ (rw (sym c.in_ok-check_bytes.ensures, lt-ltb (length c.args.answers.now) (length (records_in c.args.levels.now) * answer_record) (omega (arith, c.if-room-count.true, many)))) refl)
+    (refuses _ _ (rw (sym c.in_ok-check_bytes_for.ensures, lt-ltb (length c.args.answers.now) (length (records_in c.args.levels.now) * answer_record) (omega (arith, c.if-room-count.true, many)))) refl)
 
 pub loop-answer-init : goal.loop-answer-init
 unfolding join
@@ -68,5 +68,5 @@ returns c =
     let records = c.filter_map-answer-items.ensures in
     let whole = all _ c.loop-answer.yielded _ c.next.new.self _ c.loop-answer.yielded_by c.next.ensures.steps c.into_iter-answer-iterator.ensures.into_iter_gives records.source records.closure (λ frame given q call. search rules) c.in-None.is in
     let now = c.loop-answer.invariant in
-    succeeds (rw (sym c.in_ok-check_bytes.ensures, le-ltb (length c.args.answers.now) (length (records_in c.args.levels.now) * answer_record) now.0) (ap Done (sym (now.1 ∙ ap (λ records. length records * answer_record) whole))))
+    succeeds (rw (sym c.in_ok-check_bytes_for.ensures, le-ltb (length c.args.answers.now) (length (records_in c.args.levels.now) * answer_record) now.0) (ap Done (sym (now.1 ∙ ap (λ records. length records * answer_record) whole))))
     (now.2 ∙ ap (λ records. written (bytes_of records) c.args.answers.now) whole)

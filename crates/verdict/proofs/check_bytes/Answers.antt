@@ -5,35 +5,34 @@ use native.Mathlib.Omega.{arith}
 use Rattle.std.proofs.Math.Nat.{div-one}
 use borrow.Author.Tests.{lt-ltb, le-ltb}
 use borrow.Author.Rules.{rules}
-use Rattle.std.specs.Prelude.{Err}
-use Rattle.verdict.specs.Refusal.{number_of, Refused}
+use Rattle.verdict.specs.Refusal.{Refused}
 use Rattle.verdict.specs.File.{byte_fault}
 use Rattle.verdict.proofs.Checks.{count-refused, counted, count-done, bytes-records, next, stop, finish}
-use Rattle.verdict.proofs.Faults.{some_number}
+use Rattle.verdict.proofs.check_bytes.Goals.{then-largest-byte, else-largest-byte}
 use Rattle.verdict.proofs.check_bytes.Goals as goal
 
-pub returns-in_err-count : goal.returns-in_err-count
-returns-in_err-count c =
-    let handed_on : c.from_residual.result ≡ Err c.in_err-count.field-0.0 = search rules in
-    rw (handed_on, bytes-records c.args.most c.args.largest (number_of c.args.fault) c.args.file.now) (count-refused _ _ _ _ (omega arith) c.in_err-count.ensures)
+pub returns-in-Err : goal.returns-in-Err
+returns-in-Err c =
+    rw (c.from.ensures, bytes-records c.args.most c.args.largest c.args.number c.args.file.now) (count-refused _ _ _ _ (omega arith) c.in-Err.ensures)
 
 pub loop-k-init : goal.loop-k-init
 loop-k-init c =
-    let count = (counted (omega arith) c.in_ok-count.ensures).count ∙ div-one _ in
-    (count, bytes-records c.args.most c.args.largest (number_of c.args.fault) c.args.file.now ∙ rw sub-zero (count-done _ _ _ _ (omega arith) c.in_ok-count.ensures))
+    let count = (counted (omega arith) c.in-Ok.ensures).count ∙ div-one _ in
+    (count, bytes-records c.args.most c.args.largest c.args.number c.args.file.now ∙ rw sub-zero (count-done _ _ _ _ (omega arith) c.in-Ok.ensures))
 
-pub returns-then-largest-byte : goal.returns-then-largest-byte
-returns-then-largest-byte c =
-    let fault = byte_fault c.args.largest (number_of c.args.fault) c.args.file.now in
-    let found : fault c.loop-k.k ≡ number_of c.args.fault = rw (lt-ltb _ _ c.if-largest-byte.true) in
-    rw c.at.ensures
-    (ap (λ number. Refused number c.loop-k.k) (sym found) ∙ sym (c.loop-k.invariant.1 ∙ stop fault _ _ c.loop-k.k (search rules) (λ none. some_number c.args.fault (sym found ∙ none))))
+pub returns-then-fault-ne0 : goal.returns-then-fault-ne0
+returns-then-fault-ne0 c =
+    let fault = byte_fault c.args.largest c.args.number c.args.file.now in
+    let found : fault c.loop-k.k ≡ c.if-largest-byte.fault =
+    elim c.if-largest-byte.branch [ then-largest-byte w ↦ rw (lt-ltb _ _ w.if-largest-byte.true, w.fault-is) | else-largest-byte w ↦ rw (le-ltb _ _ w.if-largest-byte.false, w.fault-is) ] in
+    ap (λ number. Refused number c.loop-k.k) (sym found) ∙ sym (c.loop-k.invariant.1 ∙ stop fault _ _ c.loop-k.k (search rules) (λ none. c.if-fault-ne0.true (sym found ∙ none)))
 
 pub loop-k-preserved : goal.loop-k-preserved
 loop-k-preserved c =
-    let fault = byte_fault c.args.largest (number_of c.args.fault) c.args.file.now in
-    let passes : fault c.loop-k.k ≡ 0 = rw (le-ltb _ _ c.if-largest-byte.false) in
-    (c.loop-k.invariant.0, c.loop-k.invariant.1 ∙ next fault _ _ c.loop-k.k (omega (arith, c.loop-k.invariant.0, c.loop-k-test.true)) passes)
+    let fault = byte_fault c.args.largest c.args.number c.args.file.now in
+    let found : fault c.loop-k.k ≡ c.if-largest-byte.fault =
+    elim c.if-largest-byte.branch [ then-largest-byte w ↦ rw (lt-ltb _ _ w.if-largest-byte.true, w.fault-is) | else-largest-byte w ↦ rw (le-ltb _ _ w.if-largest-byte.false, w.fault-is) ] in
+    (c.loop-k.invariant.0, c.loop-k.invariant.1 ∙ next fault _ _ c.loop-k.k (omega (arith, c.loop-k.invariant.0, c.loop-k-test.true)) (found ∙ c.if-fault-ne0.false))
 
 pub returns : goal.returns
 returns c = sym (c.loop-k.invariant.1 ∙ finish _ _ _ _ (search rules))
