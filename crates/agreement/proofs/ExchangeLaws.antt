@@ -4,6 +4,7 @@ use mathlib.Core.Path.{◌≡◌, refl, ap, sym, subst, ◌∙◌}
 use mathlib.Core.List.{List, [], ◌∷◌, ◌++◌, map, map-append}
 use lib.ListN.{length, drop, length-map}
 use lib.Seq.{take_at}
+use Rattle.verdict.specs.declared.Refusal.{Refusal}
 use Rattle.verdict.specs.Refusal.{Verdict, Done, Refused}
 use Rattle.verdict.specs.File.{byte_at}
 use Rattle.verdict.specs.Lists.{All}
@@ -37,11 +38,11 @@ use Rattle.agreement.specs.Exchange.{board_after_exchange, Sent, answers_of_exch
 use Rattle.agreement.proofs.Demand3.{demand-3}
 
 -- two results that meet the promise of `send` are equal, as are the logs
-pub send-unique : (board : Board) (list events out : List ℕ) {r s : Outcome} {out₁ out₂ : List ℕ} → Sent board list events out (told r) out₁ → Sent board list events out (told s) out₂ → (r ≡ s) × (out₁ ≡ out₂)
+pub send-unique : (board : Board) (list events out : List ℕ) {r s : Outcome Refusal} {out₁ out₂ : List ℕ} → Sent board list events out (told r) out₁ → Sent board list events out (told s) out₂ → (r ≡ s) × (out₁ ≡ out₂)
 send-unique board list events out p q = outcome-unique p q
 
 -- two results that meet the promise of `exchange` are equal, as are the answers
-pub exchange-unique : (board : Board) (list events out : List ℕ) {r s : Outcome} {out₁ out₂ : List ℕ} → Exchanged board list events out (told r) out₁ → Exchanged board list events out (told s) out₂ → (r ≡ s) × (out₁ ≡ out₂)
+pub exchange-unique : (board : Board) (list events out : List ℕ) {r s : Outcome Refusal} {out₁ out₂ : List ℕ} → Exchanged board list events out (told r) out₁ → Exchanged board list events out (told s) out₂ → (r ≡ s) × (out₁ ≡ out₂)
 exchange-unique board list events out p q = outcome-unique p q
 
 -- a field that two rows of PHYs have alike, they have alike in their places

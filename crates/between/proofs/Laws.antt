@@ -2,6 +2,7 @@
 use Prim.Native.Nat.{ℕ}
 use mathlib.Core.Path.{◌≡◌, sym, ◌∙◌}
 use mathlib.Core.List.{List}
+use Rattle.verdict.specs.declared.Refusal.{Refusal}
 use Rattle.verdict.specs.Refusal.{Verdict, Done, Refused}
 use Rattle.verdict.specs.Output.{written}
 use Rattle.verdict.proofs.Outputs.{writes-unique, refuses, succeeds}
@@ -19,7 +20,7 @@ module _ {answer : Verdict} {result : List ℕ} {after before : Board} {out : Li
       (λ i. record { verdict = same.0 i; board = (p.board ∙ sym q.board) i }, same.1)
 
   -- and so are the outcomes that tell them
-  pub outcome-unique : {r s : Outcome} {out₁ out₂ : List ℕ} → HandsBack answer result after before out (told r) out₁ → HandsBack answer result after before out (told s) out₂ → (r ≡ s) × (out₁ ≡ out₂)
+  pub outcome-unique : {r s : Outcome Refusal} {out₁ out₂ : List ℕ} → HandsBack answer result after before out (told r) out₁ → HandsBack answer result after before out (told s) out₂ → (r ≡ s) × (out₁ ≡ out₂)
   outcome-unique {r} {s} p q =
       let same = hands-back-unique p q in
       (one_outcome r s same.0, same.1)

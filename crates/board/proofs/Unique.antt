@@ -14,11 +14,11 @@ use Rattle.board.specs.Load.{loaded}
 use Rattle.board.specs.Events.{events_verdict}
 
 -- two outcomes that say the same are one outcome
-pub one_outcome : (one other : Outcome) → told one ≡ told other → one ≡ other
+pub one_outcome : (one other : Outcome Refusal) → told one ≡ told other → one ≡ other
 one_outcome one other same =
     ap₂ outcome_of (one_result one.verdict other.verdict (ap (λ (t : Told). t.verdict) same)) (ap (λ (t : Told). t.board) same)
 
-pub load-unique : (file : List ℕ) (r s : Outcome) → told r ≡ loaded file → told s ≡ loaded file → r ≡ s
+pub load-unique : (file : List ℕ) (r s : Outcome Refusal) → told r ≡ loaded file → told s ≡ loaded file → r ≡ s
 load-unique file r s p q = one_outcome r s (p ∙ sym q)
 
 pub check-unique : (board : Board) (r s : Result ℕ Refusal) → said r ≡ checked board → said s ≡ checked board → r ≡ s

@@ -5,9 +5,10 @@ use Rattle.verdict.specs.Refusal.{Verdict, said}
 use Rattle.board.specs.declared.Board.{Board}
 use Rattle.board.specs.declared.Outcome.{Outcome}
 
--- an outcome by its parts
-abbrev pub outcome_of : Result ℕ Refusal → Board → Outcome
-outcome_of verdict board = record { verdict = verdict; board = board }
+-- an outcome by its parts, whatever refuses
+module _ {E : Type 0} where
+  abbrev pub outcome_of : Result ℕ E → Board → Outcome E
+  outcome_of verdict board = record { verdict = verdict; board = board }
 
 -- the same with the answer as the documents have it
 pub record Told : Type 0 where
@@ -15,5 +16,5 @@ pub record Told : Type 0 where
   pub board : Board
 
 -- what an outcome says
-abbrev pub told : Outcome → Told
+abbrev pub told : Outcome Refusal → Told
 told outcome = record { verdict = said outcome.verdict; board = outcome.board }

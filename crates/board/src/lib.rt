@@ -39,14 +39,15 @@ impl Board {
 
 // What a call that loads or changes a board answers, and the board that it hands back. A refusal hands one back too, as document 01
 // has it: the board that was given, and of a load the board of no PHYs. So the board stands beside the answer, and not in it.
+// What refuses is a `Refusal`, or what a caller of another crate has in its place.
 #[derive(Clone, Copy)]
-pub struct Outcome {
-    pub verdict: Result<usize, Refusal>,
+pub struct Outcome<E = Refusal> {
+    pub verdict: Result<usize, E>,
     pub board: Board,
 }
 
-impl Outcome {
-    pub fn of(verdict: Result<usize, Refusal>, board: Board) -> Outcome
+impl<E> Outcome<E> {
+    pub fn of(verdict: Result<usize, E>, board: Board) -> Outcome<E>
         ensures { result ≡ outcome_of verdict board }
     {
         Outcome { verdict, board }

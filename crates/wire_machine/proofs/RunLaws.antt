@@ -9,6 +9,7 @@ use native.Mathlib.Nat.{zero-div}
 use lib.ListN.{length, get_or, length-map}
 use lib.Dec.{eqb, leb}
 use borrow.Author.Tests.{eq-eqb, ne_eqb, le-leb, lt-leb, leb-true}
+use Rattle.verdict.specs.declared.Refusal.{Refusal}
 use Rattle.verdict.specs.Bits.{bit}
 use Rattle.verdict.specs.Lists.{All}
 use Rattle.verdict.specs.Output.{tabulate, join}
@@ -38,7 +39,7 @@ use Rattle.between.proofs.EachPlace.{keeps-closed, each_keeps}
 use Rattle.wire_machine.proofs.RunEach.{run-changes}
 
 -- two results that meet the promise of `run` are equal, as are the logs
-pub run-unique : (board : Board) (steps events log : List ℕ) {r s : Outcome} {log₁ log₂ : List ℕ} → Ran board steps events log (told r) log₁ → Ran board steps events log (told s) log₂ → (r ≡ s) × (log₁ ≡ log₂)
+pub run-unique : (board : Board) (steps events log : List ℕ) {r s : Outcome Refusal} {log₁ log₂ : List ℕ} → Ran board steps events log (told r) log₁ → Ran board steps events log (told s) log₂ → (r ≡ s) × (log₁ ≡ log₂)
 run-unique board steps events log p q = outcome-unique p q
 
 -- The flags: "1 level, 2 station drives, 4 two or more parties drive"
