@@ -23,7 +23,12 @@ module _ {A : Type 0} where
   good-own zero own good e = cc
   good-own (suc c) own good e = cc
 
--- who has an address is told by the addresses alone, of the first n PHYs by the first n
+-- who has an address is told by the addresses alone
+pub among-is : (phys : List Phy) (n address : ℕ) → any n (λ i. eqb (get_or (addresses_of phys) i 0) address) ≡ has_address phys n address
+unfolding has_address
+among-is phys n address = any-ext n _ _ (λ i l. ap (λ x. eqb x address) (get_or-map (λ (phy : Phy). phy.own.address) phys i nowhere))
+
+-- and of the first n PHYs by the first n
 pub among-first : (phys : List Phy) (n address : ℕ) → n ≤ length phys
     → any (length (take n (addresses_of phys))) (λ i. eqb (get_or (take n (addresses_of phys)) i 0) address) ≡ has_address phys n address
 unfolding has_address
