@@ -1,13 +1,14 @@
 -- The table of the addresses that are taken: none at first, one more with each PHY, and what it says at an address.
-use Prim.Native.Nat.{ℕ, ◌+◌, ◌<◌}
+use Prim.Native.Nat.{ℕ, zero, suc, ◌+◌, ◌≤◌, ◌<◌}
 use mathlib.Core.Bool.{Bool, true, false, or-true, or-false}
 use mathlib.Core.List.{List}
 use mathlib.Core.Path.{◌≡◌, refl, sym, ◌∙◌}
 use native.Mathlib.Decide.{ℕ_discrete}
-use lib.ListN.{length, get_or, set, replicate, length-replicate, get_or-replicate, length-set}
+use native.Mathlib.Omega.{arith}
+use lib.ListN.{length, get_or, set, replicate, length-replicate, get_or-replicate, length-set, get_or-eq_default}
 use lib.Seq.{get_or-set_same, get_or-set_other}
-use lib.Dec.{eqb}
-use borrow.Author.Tests.{eq-eqb, ne_eqb}
+use lib.Dec.{eqb, ltb}
+use borrow.Author.Tests.{eq-eqb, ne_eqb, ltb-true, ltb-false}
 use Rattle.verdict.specs.Output.{tabulate}
 use Rattle.verdict.proofs.Lists.{length-tabulate, get_or-tabulate, tabulate-of}
 use Rattle.phy.specs.Record.{any}
@@ -22,6 +23,22 @@ module _ (address : ℕ → ℕ) where
   pub taken_at : (n a : ℕ) → a < 256 → get_or (taken_by address n) a false ≡ any n (λ i. eqb (address i) a)
   unfolding taken_by
   taken_at n a within = get_or-tabulate 256 _ false a within
+
+  -- and at any number, where each address is a byte
+  pub taken-anywhere : (n : ℕ) → ((i : ℕ) → i < n → address i < 256) → (a : ℕ) → get_or (taken_by address n) a false ≡ any n (λ i. eqb (address i) a)
+  unfolding taken_by any
+  taken-anywhere n bytes a = go (ltb a 256) refl
+    where
+      none : (m : ℕ) → m ≤ n → 256 ≤ a → any m (λ i. eqb (address i) a) ≡ false
+      none zero h past = refl
+      none (suc m) h past = rw (none m (omega arith) past, ne_eqb (address m) a (λ e. omega (arith, bytes m (omega arith), e)))
+
+      go : (b : Bool) → ltb a 256 ≡ b → get_or (tabulate 256 (λ x. any n (λ i. eqb (address i) x))) a false ≡ any n (λ i. eqb (address i) a)
+      go true e = taken_at n a (ltb-true a 256 e)
+      go false e =
+          let past = ltb-false a 256 e in
+          get_or-eq_default (tabulate 256 (λ x. any n (λ i. eqb (address i) x))) false (rw length-tabulate past)
+          ∙ sym (none n (omega arith) past)
 
   pub taken_next : (n : ℕ) → address n < 256 → set (taken_by address n) (address n) true ≡ taken_by address (n + 1)
   unfolding taken_by
