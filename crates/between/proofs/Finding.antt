@@ -54,6 +54,16 @@ module _ {A : Type 0} (test : A → Bool) where
       go false p zero h e rest = never (sym e ∙ p)
       go false p (suc j) h e rest = omega (arith, rest j (omega arith) e)
 
+  -- where none passes it is the place past the last, and never further
+  pub first-within : (xs : List A) → first_of test xs ≤ length xs
+  unfolding first_of
+  first-within [] = omega arith
+  first-within (x ∷ xs) = go (test x) (first-within xs)
+    where
+      go : (b : Bool) → first_of test xs ≤ length xs → cond b 0 (suc (first_of test xs)) ≤ length (x ∷ xs)
+      go true rest = omega arith
+      go false rest = omega arith
+
   -- found among what is made of each
   pub first-map : {B : Type 0} (g : B → A) (xs : List B) → first_of test (map g xs) ≡ first_of (λ x. test (g x)) xs
   unfolding first_of
