@@ -6,20 +6,30 @@ use native.Mathlib.Omega.{arith}
 use native.Mathlib.Numerals.{add-one}
 use lib.ListN.{length, get_or, drop, drop_of_length-le, length-map}
 use lib.Seq.{drop-cons}
+use Rattle.std.specs.Prelude.{Some, None}
 use Rattle.verdict.specs.Lists.{All}
 use Rattle.verdict.proofs.Elements.{all-at}
 use Rattle.wire.specs.declared.Drive.{Drive}
+use Rattle.wire.specs.declared.Follower.{Follower}
 use Rattle.wire_machine.specs.declared.line.Line.{Line}
 use Rattle.wire_machine.specs.declared.hear.Heard.{Heard}
 use Rattle.wire_machine.specs.declared.common.Common.{Common}
 use Rattle.wire_machine.specs.Lines.{no_line, line_drives, hears_drive, hears, heard_from}
-use Rattle.wire_machine.specs.Common.{stands, standing}
+use Rattle.wire_machine.specs.Common.{apart, alike_by, stands, standing}
 use Rattle.between.proofs.Filling.{map_at}
 
 -- A line as it stands is for the same frames
 pub same-own : (common : Common) (line : Line) → (stands common line).own ≡ line.own
 unfolding stands
 same-own common line = refl
+
+-- Where lines have a follower in common they stand by it, else as they are
+module _ (common : Common) (lines : List Line) where
+  pub stands_alike : (follower : Follower) → common.follower ≡ Some follower → standing common lines ≡ standing (alike_by follower) lines
+  stands_alike follower e = ap (λ (c : Common). standing c lines) (λ i. record { follower = e i })
+
+  pub stands-apart : common.follower ≡ None → standing common lines ≡ standing apart lines
+  stands-apart e = ap (λ (c : Common). standing c lines) (λ i. record { follower = e i })
 
 module _ (common : Common) (lines : List Line) where
   abbrev all : List Line
