@@ -1,7 +1,7 @@
--- The place of the line that has an address, and a mask bit by bit.
-use Prim.Native.Nat.{ℕ, suc, ◌+◌, ◌*◌, ◌%◌, ◌^◌, ◌<◌}
+-- What a line tells of its PHY in a clock, the place of the line that has an address, and a step and a mask bit by bit.
+use Prim.Native.Nat.{ℕ, zero, suc, ◌+◌, ◌*◌, ◌%◌, ◌^◌, ◌<◌}
 use mathlib.Core.Path.{◌≡◌, refl, sym, ap, ◌∙◌}
-use mathlib.Core.Bool.{Bool, cond}
+use mathlib.Core.Bool.{Bool, false, cond}
 use mathlib.Core.List.{List}
 use lib.ListN.{length}
 use borrow.Author.Tests.{lt-ltb}
@@ -13,11 +13,33 @@ use Rattle.std.proofs.lemmas.List.Recursion.{is_position_or_len}
 use lib.Bits.{bit_or}
 use lib.Dec.{eqb}
 use lib.Pow.{pow-lt}
+use Rattle.wire.specs.declared.Drive.TheVariants.{Released}
+use Rattle.wire.specs.declared.Follower.{Follower}
+use Rattle.wire.specs.declared.Follower.TheVariants.{Hunting, Inside}
+use Rattle.wire.specs.Wire.{station_drive}
+use Rattle.wire.specs.Follower.{one_more, header_seen}
 use Rattle.phy.specs.Words.{set_bit}
+use Rattle.phy.specs.Own.{is_own}
 use Rattle.phy.proofs.Words.{or-bit}
 use Rattle.wire_machine.specs.declared.line.Line.{Line}
 use Rattle.between.specs.Happened.{first_of, found_at}
-use Rattle.wire_machine.specs.Lines.{place_in}
+use Rattle.wire_machine.specs.Lines.{place_in, acts_in, line_acts}
+
+-- whether the PHY acts in the next clock: never while its follower hunts
+pub acts-hunting : (line : Line) (ones : ℕ) → line.follower ≡ Hunting ones → line_acts line ≡ false
+unfolding acts_in
+acts-hunting line ones e = ap (λ (f : Follower). acts_in f line) e
+
+-- and inside a frame where the 14th bit ends an own read's header or the 32nd ends an own write
+pub acts-inside : (line : Line) (seen bits : ℕ) → line.follower ≡ Inside seen bits → line_acts line ≡ cond (eqb seen 13) (is_own 2 (header_seen 14 (one_more bits false)) line.own) (cond (eqb seen 31) (is_own 1 (header_seen 32 (one_more bits false)) line.own) false)
+unfolding acts_in
+acts-inside line seen bits e = ap (λ (f : Follower). acts_in f line) e
+
+-- a step that is neither 0 nor 1 drives nothing
+pub station-released : (step : ℕ) → (step ≡ 0 → ⊥) → (step ≡ 1 → ⊥) → Released ≡ station_drive step
+station-released zero n0 n1 = absurd (n0 refl)
+station-released (suc zero) n0 n1 = absurd (n1 refl)
+station-released (suc (suc step)) n0 n1 = refl
 
 -- a mask of 32 bits with one bit more
 pub mark_set : (mask address : ℕ) → address < 32 → bit_or mask (1 * 2 ^ address % 2 ^ 32) ≡ set_bit address mask
