@@ -181,8 +181,15 @@ module _ {A : Type 0} (f : A → A) where
   pub mixed-set : (i : ℕ) (xs : List A) (v : A) → set (mixed i xs) i v ≡ mixed (i + 1) (set xs i v)
   mixed-set i xs v = rw add-one (mixed-turn i xs v)
 
-  mixed-all : (n : ℕ) (xs : List A) → n ≡ length xs → mixed n xs ≡ xs
-  mixed-all n xs all =
+  -- the first n are as they were once they are passed
+  pub mixed-all : (n : ℕ) (xs : List A) → take n (mixed n xs) ≡ take n xs
+  mixed-all zero xs = refl
+  mixed-all (suc n) [] = refl
+  mixed-all (suc n) (x ∷ xs) = ap (λ ys. x ∷ ys) (mixed-all n xs)
+
+  -- where all are passed nothing is changed any more
+  mixed-whole : (n : ℕ) (xs : List A) → n ≡ length xs → mixed n xs ≡ xs
+  mixed-whole n xs all =
       let none : drop n xs ≡ [] = drop_of_length-le xs {i = n} (omega arith) in
       let whole : take n xs ≡ xs = take_all n xs (omega arith) in
       rw (none, append-nil, whole)
@@ -240,7 +247,7 @@ module _ (events steps log₀ : List ℕ) (board : Board) (full : length (phys_o
 
 -- where all lines are passed they stand by what they are found to have in common
 pub all-passed : {start now : Board} {phys : List Phy} (common : Common) (lines : List Line) (n : ℕ) → n ≡ length lines → Shows start now (mixed (stands common) n lines) phys → Shows start now (standing (common_of lines) lines) phys
-all-passed {start} {now} {phys} common lines n all = subst (λ ls. Shows start now ls phys) (mixed-all (stands common) n lines all ∙ sym (common-of lines))
+all-passed {start} {now} {phys} common lines n all = subst (λ ls. Shows start now ls phys) (mixed-whole (stands common) n lines all ∙ sym (common-of lines))
 
 -- there are as many lines as PHYs
 pub as-many : {start now : Board} {phys : List Phy} (common : Common) (lines : List Line) → Shows start now (standing common lines) phys → length lines ≡ length phys
