@@ -32,14 +32,18 @@ module _ (file : List ℕ) (old : List Phy) (n : ℕ) where
 
 -- what is read of the record at index k, once it is what the file says
 module _ (file : List ℕ) (k : ℕ) (read : PhyRecord) (as-file : read ≡ record_at file k) where
-  -- its checks are the file's: whether an earlier record has the address is told by the table
+  -- its checks are the file's, however it is known whether an earlier record has the address
+  pub fault-found : (used : Bool) → used ≡ used_before file k → fault_of (zero_byte_at file k) used read ≡ record_fault file k
+  unfolding record_fault
+  fault-found used u = rw (u, as-file)
+
+  -- as by the table
   pub found-fault : (taken : List Bool) → taken ≡ taken_by (address_at file) k → address_at file k < 256
       → fault_of (zero_byte_at file k) (get_or taken read.own.address false) read ≡ record_fault file k
-  unfolding record_fault used_before
+  unfolding used_before
   found-fault taken so_far byte =
       let address = ap (λ (r : PhyRecord). r.own.address) as-file in
-      let used = ap₂ (λ (table : List Bool) (a : ℕ). get_or table a false) so_far address ∙ taken_at (address_at file) k (address_at file k) byte in
-      rw (used, as-file)
+      fault-found _ (ap₂ (λ (table : List Bool) (a : ℕ). get_or table a false) so_far address ∙ taken_at (address_at file) k (address_at file k) byte)
 
   -- and the PHY that is made of it is the record's
   pub found-phy : fresh read.own read.defaults read.masks ≡ phy_at file k
