@@ -14,6 +14,7 @@ pub use log::log_part;
 pub use steps::{Step, Steps, translate};
 
 // The shared numbers of a frame. Clocks are positions from 1, and each follows from the preamble's length.
+#[derive(Clone, Copy)]
 pub struct Frame;
 
 impl Frame {

@@ -11,6 +11,7 @@ use crate::parts::put_each;
 use verdict::Refusal;
 
 // A clock step is a byte of a file that C reads and writes: `Transaction::step` promises that byte (`step_at`).
+#[derive(Clone, Copy)]
 pub struct Step;
 
 impl Step {
@@ -24,6 +25,7 @@ impl Step {
 }
 
 // Steps one after the other, one for each clock.
+#[derive(Clone, Copy)]
 pub struct Steps;
 
 impl Steps {

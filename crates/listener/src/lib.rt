@@ -14,6 +14,7 @@ use verdict::{Fault, Refusal, check_bytes_for};
 use wire::{Follower, Header};
 
 // What is saved: as many bytes as the longest run has clocks, each a level.
+#[derive(Clone, Copy)]
 pub struct Capture;
 
 impl Capture {

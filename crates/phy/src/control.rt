@@ -8,6 +8,7 @@ ghost use Rattle.phy.specs.Control.{speed_able, speed_from, new_bit12, new_bit9,
 use crate::abilities::Abilities;
 use crate::status::Status;
 
+#[derive(Clone, Copy)]
 pub struct Control;
 
 impl Control {

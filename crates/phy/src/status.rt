@@ -2,8 +2,10 @@
 ghost use Rattle.std.specs.Prelude.{◌≡◌};
 ghost use Rattle.phy.specs.Registers.{held_after};
 
+#[derive(Clone, Copy)]
 pub struct Status;
 
+#[derive(Clone, Copy)]
 pub struct ExtendedStatus;
 
 impl Status {
