@@ -1,6 +1,6 @@
 -- The list file: what a parse says of its record, and what an accepted list is.
 use Prim.Native.Nat.{ℕ, zero, suc, ◌+◌, ◌*◌, ◌≤◌, ◌<◌}
-use mathlib.Core.Path.{◌≡◌, refl, ap, ap₂}
+use mathlib.Core.Path.{◌≡◌, refl, ap, ap₂, sym, ◌∙◌}
 use mathlib.Core.List.{List, []}
 use native.Mathlib.Omega.{arith}
 use lib.ListN.{length, drop, get_or, drop_of_length-le, get_or-eq_default}
@@ -21,7 +21,15 @@ refusal-parsed list k = go (record_fault list k) (transaction_at list k)
     go zero t = refl
     go (suc f) t = refl
 
--- a good parse is the record's transaction
+-- a bad record is at fault
+pub bad-at-fault : (list : List ℕ) (k c : ℕ) → parsed list k ≡ Bad c → record_fault list k ≡ 0 → ⊥
+unfolding parsed
+bad-at-fault list k c bad none =
+    let good : judged_by 0 (transaction_at list k) ≡ Bad c = ap (λ f. judged_by f (transaction_at list k)) (sym none) ∙ bad in
+    let z : ◌≡◌ {A = ℕ} 0 1 = cc in
+    omega arith
+
+-- a good one is the record's transaction
 pub good-is-own : (list : List ℕ) (k : ℕ) (t : Transaction) → parsed list k ≡ Good t → t ≡ transaction_at list k
 unfolding parsed
 good-is-own list k t = go (record_fault list k)
