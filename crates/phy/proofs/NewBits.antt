@@ -1,7 +1,7 @@
 -- The new bits of register 0 are bits, and the speed that two bits ask for is told by the mask of both.
 use Prim.Native.Nat.{ℕ, zero, suc, ◌+◌, ◌-◌, ◌*◌, ◌^◌, ◌<◌}
 use mathlib.Core.Path.{◌≡◌, refl, sym, ap, ◌∙◌}
-use mathlib.Core.Bool.{Bool, true, false, not, cond, true≢false, false≢true}
+use mathlib.Core.Bool.{Bool, true, false, not, cond, beq, true≢false, false≢true}
 use mathlib.Core.List.{[], ◌∷◌}
 use native.Mathlib.Omega.{arith}
 use native.Mathlib.Nat.{zero-mul}
@@ -84,6 +84,13 @@ duplex-stored true true b h = refl
 duplex-stored false false b h = refl
 duplex-stored true false b h = absurd (true≢false h)
 duplex-stored false true b h = absurd (false≢true h)
+
+-- "fixed if only one duplex is able": by full
+pub duplex-fixed : (full half : Bool) (b : ℕ) → beq full half ≡ false → duplex_bit full half b ≡ cond full 1 0
+duplex-fixed true false b h = refl
+duplex-fixed false true b h = refl
+duplex-fixed true true b h = absurd (true≢false h)
+duplex-fixed false false b h = absurd (true≢false h)
 
 -- the parts that the code adds up are the new word, which fits
 pub control_parts : (status extended old word : ℕ)

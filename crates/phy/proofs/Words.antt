@@ -203,6 +203,11 @@ module _ (mask old word : ℕ) where
           rw (one-mul (2 ^ n), and-cons n (mask % 2 ^ n) old below, and-cons n (mask % 2 ^ n) word below) (omega arith)
       go (suc (suc b)) h = absurd (omega arith)
 
+  -- `old - (old & mask) + (word & mask)`
+  pub merge-word : (n : ℕ) → mask < 2 ^ n → old < 2 ^ n → old - bit_and old mask + bit_and word mask ≡ word_of n pick
+  merge-word n m o =
+      ap₂ (λ (x y : ℕ). x - bit_and old y + bit_and word y) (sym (mod-eq_of_lt o)) (sym (mod-eq_of_lt m)) ∙ merge n
+
   -- what a mask keeps of one word and leaves of another has no bit in common
   apart : mask < 2 ^ 16 → bit_and (bit_and old (65535 - mask)) (bit_and word mask) ≡ 0
   apart m =
@@ -215,8 +220,7 @@ module _ (mask old word : ℕ) where
   pub merge_word : mask < 2 ^ 16 → old < 2 ^ 16 → bit_or (bit_and old (65535 - mask)) (bit_and word mask) ≡ word_of 16 pick
   merge_word m o =
       let sum : bit_or (bit_and old (65535 - mask)) (bit_and word mask) ≡ old - bit_and old mask + bit_and word mask = omega (arith, or_add_and (bit_and old (65535 - mask)) (bit_and word mask), apart m, and_rest mask old m o) in
-      sum
-      ∙ ap₂ (λ (x y : ℕ). x - bit_and old y + bit_and word y) (sym (mod-eq_of_lt o)) (sym (mod-eq_of_lt m)) ∙ merge 16
+      sum ∙ merge-word 16 m o
 
   pub pick-lt : (i : ℕ) → pick i < 2
   pick-lt i = go (one i mask)
