@@ -1,8 +1,8 @@
--- One clock of a capture: what is heard behind it, and how the follower's kind tells whether it started a frame.
+-- One clock of a capture: what is heard behind it, and how the follower's kind tells whether it started or ended a frame.
 use Prim.Native.Nat.{ℕ, ◌+◌, ◌≤◌, ◌<◌}
 use mathlib.Core.Path.{◌≡◌, refl, ap, ap₂, sym, ◌∙◌}
 use mathlib.Core.Bool.{Bool, true, false, cond}
-use mathlib.Core.List.{List, [], ◌++◌}
+use mathlib.Core.List.{List, [], ◌∷◌, ◌++◌}
 use native.Mathlib.Omega.{arith}
 use native.Mathlib.Numerals.{add-one}
 use lib.ListN.{length, get_or, drop, drop_of_length-le}
@@ -10,7 +10,7 @@ use lib.Seq.{drop-cons}
 use lib.Dec.{leb, eqb}
 use Rattle.wire.specs.declared.Follower.{Follower}
 use Rattle.wire.specs.declared.Follower.TheVariants.{Hunting, Inside}
-use Rattle.wire.specs.Follower.{follow}
+use Rattle.wire.specs.Follower.{one_more, follow}
 use Rattle.listener.specs.Frames.{enough, at_first, frames_ending, frames_from}
 use Rattle.listener.specs.Listening.{levels_in}
 use Rattle.listener.specs.Parts.{frames_in, frames_started, started}
@@ -24,11 +24,11 @@ unfoldable pub frames_behind : List ℕ → Follower → ℕ → List ℕ
 frames_behind capture follower i = frames_from follower (levels_in (drop i capture))
 
 module _ (capture : List ℕ) (follower : Follower) (i : ℕ) where
-  nothing-behind : length capture ≤ i → frames_behind capture follower i ≡ []
+  pub nothing-behind : length capture ≤ i → frames_behind capture follower i ≡ []
   unfolding frames_behind frames_from
   nothing-behind past = ap (λ rest. frames_from follower (levels_in rest)) (drop_of_length-le capture past)
 
-  next-clock : i < length capture →
+  pub next-clock : i < length capture →
       frames_behind capture follower i ≡ frames_ending (level capture i) follower ++ frames_behind capture (follow enough (level capture i) follower) (i + 1)
   unfolding frames_behind frames_from
   next-clock more =
@@ -40,7 +40,7 @@ never : {A : Type 0} {n seen bits : ℕ} → Hunting n ≡ Inside seen bits → 
 never e = absurd (let z : ◌≡◌ {A = ℕ} 0 1 = cc in omega arith)
 
 -- a listener that hunts and finds itself inside a frame has heard the 0 of its start
-now-started : (level : Bool) (ones seen bits : ℕ) → follow enough level (Hunting ones) ≡ Inside seen bits → follow enough level (Hunting ones) ≡ started
+pub now-started : (level : Bool) (ones seen bits : ℕ) → follow enough level (Hunting ones) ≡ Inside seen bits → follow enough level (Hunting ones) ≡ started
 unfolding follow
 now-started true ones seen bits e = never e
 now-started false ones seen bits e = go (leb enough ones) e
@@ -48,6 +48,25 @@ now-started false ones seen bits e = go (leb enough ones) e
     go : (b : Bool) → cond b (Inside 1 0) (Hunting 0) ≡ Inside seen bits → cond b (Inside 1 0) (Hunting 0) ≡ started
     go true e = refl
     go false e = never e
+
+module _ (level : Bool) (seen bits : ℕ) where
+  -- one inside a frame that finds itself hunting hunts as at first
+  pub now-hunting : (ones : ℕ) → follow enough level (Inside seen bits) ≡ Hunting ones → follow enough level (Inside seen bits) ≡ at_first
+  unfolding follow
+  now-hunting ones e = go (leb 31 seen) e
+    where
+      go : (ends : Bool) → let next = cond ends (Hunting 0) (Inside (seen + 1) (one_more bits level)) in next ≡ Hunting ones → next ≡ at_first
+      go true e = refl
+      go false e = never (sym e)
+
+  -- and while it is inside, no frame has ended
+  pub none-ended : (seen' bits' : ℕ) → follow enough level (Inside seen bits) ≡ Inside seen' bits' → frames_ending level (Inside seen bits) ≡ []
+  unfolding follow
+  none-ended seen' bits' e = go (leb 31 seen) e
+    where
+      go : (ends : Bool) → cond ends (Hunting 0) (Inside (seen + 1) (one_more bits level)) ≡ Inside seen' bits' → cond ends (one_more bits level ∷ []) [] ≡ []
+      go true e = never e
+      go false e = refl
 
 -- a listener that hunts has lost nothing of what is heard
 pub record Hunts (capture : List ℕ) (follower : Follower) (i : ℕ) : Type 0 where
