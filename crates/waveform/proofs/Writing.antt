@@ -6,9 +6,9 @@ use native.Mathlib.Omega.{arith}
 use native.Mathlib.Numerals.{add-one}
 use lib.ListN.{length, drop}
 use lib.Seq.{drop-cons, drop-length}
-use borrow.Author.Tests.{ne_eqb}
-use Rattle.verdict.specs.Refusal.{Refused, Done}
-use Rattle.verdict.specs.File.{byte_at, records, counting}
+use borrow.Author.Tests.{eq-eqb, ne_eqb, lt-ltb}
+use Rattle.verdict.specs.Refusal.{Refused, Done, wrong_length, too_many}
+use Rattle.verdict.specs.File.{byte_at, records, counting, file_verdict}
 use Rattle.verdict.proofs.Lists.{length-tabulate, get_or-tabulate}
 use Rattle.verdict.proofs.Checks.{accepted, accepts, count-refused, counted}
 use Rattle.frame.specs.Frame.{log_record}
@@ -113,8 +113,17 @@ module _ (log : List ℕ) where
             subst (λ lines. Puts out₀ lines out') now.whole
             (puts_both now.done (to_come i) all_room now.puts (subst (λ lines. Puts out lines out') (sym closing) puts))
 
--- The log's checks, by the count of its records
+-- The log's checks
 module _ (log : List ℕ) where
+  pub not-whole : (length log % log_record ≡ 0 → ⊥) → log_verdict log ≡ Refused wrong_length 0
+  unfolding file_verdict
+  not-whole broken = rw (ne_eqb (length log % log_record) 0 broken)
+
+  pub too_long : length log % log_record ≡ 0 → most_steps < records log_record log → log_verdict log ≡ Refused too_many 0
+  unfolding file_verdict
+  too_long whole many = rw (eq-eqb (length log % log_record) 0 whole, lt-ltb most_steps (records log_record log) many)
+
+  -- by the count of its records
   pub log-refused : {c j : ℕ} → Refused c j ≡ counting log_record most_steps log → log_verdict log ≡ Refused c j
   log-refused e = sym (count-refused (λ k. 0) log_record most_steps log (omega arith) e)
 
