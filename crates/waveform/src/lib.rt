@@ -11,6 +11,7 @@ use frame::Steps;
 pub use read::read_vcd;
 pub use write::write_vcd;
 
+#[derive(Clone, Copy)]
 pub struct Waveform;
 
 impl Waveform {
