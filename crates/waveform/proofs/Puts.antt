@@ -42,7 +42,7 @@ puts-nothing out = record { same_text = refl; behind = omega arith; output = sym
 
 module _ {out out' : Output} where
   -- the text keeps its length
-  puts-length : {more : List ℕ} → HasRoom out more → Puts out more out' → length out'.text.now ≡ length out.text.now
+  pub puts-length : {more : List ℕ} → HasRoom out more → Puts out more out' → length out'.text.now ≡ length out.text.now
   puts-length {more} room puts = ap length puts.output ∙ length-put out.text.now out.at more room
 
   -- and then there is room for the second

@@ -1,9 +1,10 @@
 -- Whether a text starts with a line: byte by byte, and what then stands behind the line.
-use Prim.Native.Nat.{ℕ}
+use Prim.Native.Nat.{ℕ, ◌+◌, ◌≤◌, ◌<◌}
 use mathlib.Core.Path.{◌≡◌, refl, ap, ap₂, sym, ◌∙◌}
-use mathlib.Core.Bool.{Bool, true, false, ◌&&◌, and-eq-true_iff, false≢true}
+use mathlib.Core.Bool.{Bool, true, false, ◌&&◌, and-false, and-eq-true_iff, false≢true}
 use mathlib.Core.List.{List, [], ◌∷◌, ◌++◌}
-use lib.ListN.{length, drop, take}
+use native.Mathlib.Omega.{arith}
+use lib.ListN.{length, drop, take, length-append, length-drop}
 use lib.Seq.{drop-append_seam}
 use lib.Dec.{eqb}
 use borrow.Author.Tests.{eqb-true, eqb-false, eq-eqb, ne_eqb}
@@ -28,6 +29,12 @@ compared (b ∷ line) (c ∷ text) = ap₂ ◌&&◌ (either-way c b) (compared l
 pub asked : (line known text : List ℕ) (b : Bool) → line ≡ known → pointwise nat_eq (take (length line) text) line ≡ b → starts_with known text ≡ b
 asked line known text b same is = sym (compared known text) ∙ ap (λ l. pointwise nat_eq (take (length l) text) l) (sym same) ∙ is
 
+-- a text that is too short
+pub too_short : (line text : List ℕ) → length text < length line → starts_with line text ≡ false
+too_short [] text h = absurd (omega arith)
+too_short (b ∷ line) [] h = refl
+too_short (b ∷ line) (c ∷ text) h = rw (too_short line text (omega arith)) (and-false (eqb b c))
+
 -- a line with anything behind it starts with the line
 pub starts : (line more : List ℕ) → starts_with line (line ++ more) ≡ true
 starts [] more = refl
@@ -40,6 +47,11 @@ started (b ∷ line) [] e = absurd (false≢true e)
 started (b ∷ line) (c ∷ text) e =
     let both = (and-eq-true_iff (eqb b c) (starts_with line text)).0 e in
     ap₂ ◌∷◌ (sym (eqb-true b c both.0)) (started line text both.1)
+
+-- a line that is there is not longer than the text
+pub line-within : (text : List ℕ) (at : ℕ) (line : List ℕ) → at ≤ length text → starts_with line (drop at text) ≡ true → at + length line ≤ length text
+line-within text at line within there =
+    omega (arith, ap length (started line (drop at text) there), length-append line (drop (length line) (drop at text)), length-drop at text)
 
 -- what stands behind a line
 pub behind : (line : List ℕ) {text more : List ℕ} → text ≡ line ++ more → drop (length line) text ≡ more

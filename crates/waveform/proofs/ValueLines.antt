@@ -63,6 +63,33 @@ module _ (text : List ℕ) (signal : Signal) (old first : Bool) where
       go false true false p q r = sees-none
       go false false same p q r = sees-none
 
+-- what is left behind a signal is no longer than the text
+pub seen-within : (text : List ℕ) (signal : Signal) (old first : Bool) → length (seen_in text signal old first).rest ≤ length text
+unfolding seen_in
+seen-within text signal old first = go (starts_with (line_of signal (not old)) text) (first && starts_with (line_of signal old) text)
+  where
+    behind-line : length (drop 3 text) ≤ length text
+    behind-line = omega (arith, length-drop 3 text)
+
+    go : (other same : Bool) →
+        length (cond {A = Seen Bool} other (record { value = not old; rest = drop 3 text }) (cond same (record { value = old; rest = drop 3 text }) (record { value = old; rest = text }))).rest ≤ length text
+    go true same = behind-line
+    go false true = behind-line
+    go false false = omega arith
+
+-- and neither is what is left behind a clock
+pub shown-within : (text : List ℕ) (old : Signals) (first : Bool) → length (shown_in text old first).rest ≤ length text
+unfolding shown_in
+shown-within text old first =
+    let level = seen_in text Level old.level first in
+    let enable = seen_in level.rest Enable old.enable first in
+    omega (
+      arith,
+      seen-within text Level old.level first,
+      seen-within level.rest Enable old.enable first,
+      seen-within enable.rest Contention old.contention first,
+    )
+
 -- All three: where lines enough are passed over they are a clock's, and there is one among them
 module _ (values : List ℕ) (clock : ℕ) (old : Signals) {l e c : Seen Bool}
     (level : Sees values Level old.level (eqb clock 1) l)

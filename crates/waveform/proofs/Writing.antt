@@ -19,7 +19,7 @@ use Rattle.waveform.specs.Text.{time_line}
 use Rattle.waveform.specs.Signals.{signals_of}
 use Rattle.waveform.specs.Waveform.{header, clock_lines, lines_from, text_of, signals_in, waveform, log_verdict}
 use Rattle.waveform.specs.Passes.{HasRoom, Puts, Accepted, flags_before}
-use Rattle.waveform.proofs.Puts.{puts-nothing, room-first, room-second, puts_both}
+use Rattle.waveform.proofs.Puts.{puts-nothing, puts-length, room-first, room-second, puts_both}
 
 module _ (log : List ℕ) where
   -- the signals of clock i + 1
@@ -82,6 +82,10 @@ module _ (log : List ℕ) where
 
       rest-room : HasRoom out (to_come i)
       rest-room = room-second now.done (to_come i) all_room now.puts
+
+      -- the text keeps its length
+      pub same-long : length out.text.now ≡ length out₀.text.now
+      same-long = puts-length (room-first out₀ now.done (to_come i) all_room) now.puts
 
       module _ (here : i < records log_record log) where
         -- there is room for another clock, and then it goes on
