@@ -4,7 +4,7 @@ use Prim.Native.Nat.{ℕ, ◌+◌, ◌-◌, ◌*◌, ◌/◌, ◌%◌, ◌≤◌
 use mathlib.Core.Path.{◌≡◌, sym, ap, ◌∙◌}
 use mathlib.Core.List.{List}
 use native.Mathlib.Omega.{arith}
-use Rattle.std.proofs.Math.Nat.{mod-lt, mul-mod_left, mul-div_cancel, le-div_iff_mul-le, add-mul, one-mul}
+use Rattle.std.proofs.Math.Nat.{mod-lt, mul-mod_left, mul-div_cancel, le-div_iff_mul-le, add-mul, one-mul, add-mod}
 use native.Mathlib.Decide.{ℕ_discrete}
 use lib.ListN.{length, take}
 use lib.Seq.{length-take-le, take-length}
@@ -17,6 +17,10 @@ use Rattle.mdiobench.specs.Input.{IsPrefixLen, stand_in}
 -- as many bytes as a buffer has, or fewer, are the length of its part of that length
 pub counts : (n : ℕ) (xs : List ℕ) → n ≤ length xs → IsPrefixLen n xs
 counts n xs within = (within, sym (length-take-le n xs within))
+
+-- the remainder of a sum is that of the remainders' sum
+pub sum_of_rests : (rest more size : ℕ) → (rest % size + more % size) % size ≡ (rest + more) % size
+sum_of_rests rest more size = sym (add-mod rest more size)
 
 -- what stands for an input is within the buffer
 pub stand_in_fits : (room size past : ℕ) → size ≤ room → past < size → stand_in room size past ≤ room

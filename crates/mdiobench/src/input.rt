@@ -2,7 +2,7 @@
 // fills no more of its buffer, as the end of a file does.
 #![tactic(auto, using(crate::proofs::Lengths::counts, crate::proofs::Lengths::stand_in_fits))]
 
-ghost use Rattle.std.specs.Prelude.{◌≡◌, ◌≤◌, ◌<◌, length};
+ghost use Rattle.std.specs.Prelude.{◌≡◌, ◌+◌, ◌%◌, ◌≤◌, ◌<◌, length};
 ghost use Rattle.mdiobench.specs.Input.{IsPrefixLen, stand_in};
 
 use board::Board;
@@ -42,21 +42,29 @@ pub(crate) struct Records {
 }
 
 impl Records {
+    // How far `rest` bytes and `more` go past the last whole record; the sum itself need not fit.
+    #[tactic(auto, using(crate::proofs::Lengths::sum_of_rests))]
+    fn past(self, rest: usize, more: usize) -> usize
+        ensures { result ≡ (rest + more) % self.size }
+    {
+        (rest % self.size + more % self.size) % self.size
+    }
+
     // How far the rest of an input goes past its last whole record. It is read to its end, or for as many reads as a u64
     // counts, which no input lives to see.
     fn rest_of<R: Read>(self, reader: &mut R) -> usize
         ensures { result < self.size }
     {
         let mut chunk = zeroed::<CHUNK>();
-        let mut past = 0;
+        let mut rest = 0;
         for _ in 0..u64::MAX {
             let more = read_full(reader, &mut chunk).len();
             if more == 0 {
                 break;
             }
-            past = (past + more) % self.size;
+            rest = self.past(rest, more);
         }
-        past
+        rest
     }
 
     // Reads an input, and hands back the part of the buffer that stands for it.

@@ -3,4 +3,4 @@ use Rattle.std.proofs.Common.{◌<◌}
 use Rattle.mdiobench.proofs.input.Records.rest_of.Given as goal
 
 abbrev pub invariant-loop : goal.invariant-loop
-invariant-loop g l = l.past < l.self.size
+invariant-loop g l = l.rest < l.self.size
