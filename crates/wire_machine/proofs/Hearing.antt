@@ -23,11 +23,13 @@ pub same-own : (common : Common) (line : Line) → (stands common line).own ≡ 
 unfolding stands
 same-own common line = refl
 
--- Where lines have a follower in common they stand by it, else as they are
+-- By what lines stand
 module _ (common : Common) (lines : List Line) where
+  -- where a follower is common, by that one
   pub stands_alike : (follower : Follower) → common.follower ≡ Some follower → standing common lines ≡ standing (alike_by follower) lines
   stands_alike follower e = ap (λ (c : Common). standing c lines) (λ i. record { follower = e i })
 
+  -- and where none is, each as it is
   pub stands-apart : common.follower ≡ None → standing common lines ≡ standing apart lines
   stands-apart e = ap (λ (c : Common). standing c lines) (λ i. record { follower = e i })
 
