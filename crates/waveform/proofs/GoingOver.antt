@@ -15,7 +15,7 @@ use Rattle.waveform.specs.declared.signals.Signals.{Signals}
 use Rattle.waveform.specs.Text.{starts_with}
 use Rattle.waveform.specs.Signals.{signals_of, flags_of}
 use Rattle.waveform.specs.Waveform.{header}
-use Rattle.waveform.specs.Passes.{Shown, Clock, Closing, Foreign, next_in, prepend, clocks_by, clocks_from, clocks_in, GoneOver}
+use Rattle.waveform.specs.Passes.{Shown, Next, Clock, Closing, Foreign, next_in, prepend, clocks_by, clocks_from, clocks_in, GoneOver}
 
 -- clocks in front of those that are still to come
 unfoldable pub prepend_all : List Signals → Option (List Signals) → Option (List Signals)
@@ -106,6 +106,15 @@ module _ (text : List ℕ) where
     runs-out last shown next flags' =
         let none_left : most_steps - i ≡ 0 = omega arith in
         foreign flags' (now.all ∙ ap (prepend_all now.past) (rw (none_left, next)) ∙ prepend-none now.past)
+
+    -- so behind as many as there may be only the closing time is ours
+    pub ends-there : i ≡ most_steps → (next_in rest (i + 1) old ≡ Closing → ⊥) → (flags' : List ℕ) → GoneOver text (Refused wrong_text 0) flags'
+    ends-there last other flags' = go (next_in rest (i + 1) old) refl
+      where
+        go : (next : Next) → next_in rest (i + 1) old ≡ next → GoneOver text (Refused wrong_text 0) flags'
+        go (Clock shown) e = runs-out last shown e flags'
+        go Closing e = absurd (other e)
+        go Foreign e = ends e flags'
 
     -- another clock, whose flags are put behind those of the others
     pub goes_on : i < most_steps → i < length flags → (shown : Shown) → next_in rest (i + 1) old ≡ Clock shown →

@@ -53,6 +53,15 @@ goes text clock old = go _ _ _ _ refl refl refl refl
     go false end false few p q r s =
         goes_on {shown = record { value = old; rest = text }} (rw (r, same-untold old.level, same-untold old.enable, same-untold old.contention))
 
+-- so where it takes it for the closing time nothing else is there
+pub closing-alone : (text : List ℕ) (clock : ℕ) (old : Signals) → next_in text clock old ≡ Closing → text ≡ time_line clock
+closing-alone text clock old = go (goes text clock old)
+  where
+    go : {next : Next} → Goes text clock old next → next ≡ Closing → text ≡ time_line clock
+    go (closes here) e = here
+    go (goes_on here) e = absurd (let z : ◌≡◌ {A = ℕ} 0 1 = cc in omega arith)
+    go foreign e = absurd (let z : ◌≡◌ {A = ℕ} 0 1 = cc in omega arith)
+
 -- the text is the lines of these clocks, of which there are few enough
 abbrev pub Holds : List ℕ → ℕ → ℕ → Signals → List Signals → Type 0
 Holds text left clock old clocks = (text ≡ lines_from clock old clocks) × (length clocks ≤ left)
@@ -108,7 +117,7 @@ timed (new ∷ later) clock old = go (shows_any clock old new) (timed later (suc
 
 -- what the writer puts next is what the reader takes for next: the closing time,
 module _ (text : List ℕ) (clock : ℕ) (old : Signals) where
-  next-closing : text ≡ time_line clock → next_in text clock old ≡ Closing
+  pub next-closing : text ≡ time_line clock → next_in text clock old ≡ Closing
   unfolding next_in
   next-closing here =
       let alone = here ∙ sym (append-nil (time_line clock)) in

@@ -93,7 +93,8 @@ fn what_follows<'a>(
     Ok(Some(shown))
 }
 
-// Reads the flags of the text's clocks, and answers how many there are: no text of ours has more of them than there are places.
+// Reads the flags of the text's clocks, and answers how many there are: no text of ours has more of them than there are places,
+// and behind so many only the closing time stands.
 fn read_clocks(text: &[u8], flags: &mut [u8; Waveform::MOST]) -> Result<usize, Refusal>
     ensures { GoneOver text.now (said result) flags.new }
 {
@@ -110,9 +111,11 @@ fn read_clocks(text: &[u8], flags: &mut [u8; Waveform::MOST]) -> Result<usize, R
         old = shown.value;
         rest = shown.rest;
     }
-    match what_follows(rest, Waveform::MOST + 1, old)? {
-        None => Ok(Waveform::MOST),
-        Some(_) => Err(Fault::WrongText.at(0)),
+    let mut room = [0; Waveform::LONGEST_TIME];
+    if rest == time_line(Waveform::MOST + 1, &mut room) {
+        Ok(Waveform::MOST)
+    } else {
+        Err(Fault::WrongText.at(0))
     }
 }
 

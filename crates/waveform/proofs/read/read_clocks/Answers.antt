@@ -1,16 +1,21 @@
 -- The header, then clock by clock, up to the closing time or to what the writer never writes.
 use Prim.Native.Nat.{ℕ, ◌+◌, ◌≤◌}
-use mathlib.Core.Path.{◌≡◌, refl, subst, ◌∙◌}
+use mathlib.Core.Path.{◌≡◌, refl, subst, ap, sym, ◌∙◌}
+use mathlib.Core.Bool.{false≢true}
 use native.Mathlib.Omega.{arith}
 use lib.ListN.{length-set}
 use lib.Seq.{take-set-le}
 use borrow.Author.Rules.{rules}
 use Rattle.std.specs.Prelude.{Err}
+use Rattle.std.proofs.lemmas.Bool.Decides.{Decides-eqb}
+use Rattle.std.proofs.lemmas.Slice.Eq.{slice_eq-Decides}
 use Rattle.verdict.specs.Refusal.{Done}
 use Rattle.frame.specs.Steps.{most_steps}
+use Rattle.waveform.specs.Text.{time_line}
 use Rattle.waveform.specs.Passes.{seen_by, GoneOver}
 use Rattle.waveform.proofs.Starts.{asked}
-use Rattle.waveform.proofs.GoingOver.{no_header, goes_first, closes, ends, runs-out, goes_on}
+use Rattle.waveform.proofs.GoingOver.{no_header, goes_first, closes, ends, ends-there, goes_on}
+use Rattle.waveform.proofs.Reading.{next-closing, closing-alone}
 use Rattle.waveform.proofs.read.read_clocks.Goals as goal
 
 -- where every place is taken, the clock that comes next is number 4,161
@@ -45,22 +50,20 @@ loop-i-preserved c =
       length-set c.loop-i.flags c.loop-i.i _ ∙ c.loop-i.invariant.1,
     )
 
-pub returns-in_err-what_follows : goal.returns-in_err-what_follows
-returns-in_err-what_follows c =
-    let refused : c.from_residual-in_err-what_follows.result ≡ Err c.in_err-what_follows.field-0.0 = search rules in
-    let next = c.in_err-what_follows.ensures in
-    let last = behind-last c.loop-i-test.false c.loop-i.auto.i-end in
-    rw (refused, next.1) (ends c.args.text.now c.loop-i.invariant.0 (rw last next.0) _)
-
-pub returns-in-None : goal.returns-in-None
-returns-in-None c =
+pub returns-then-eq : goal.returns-then-eq
+returns-then-eq c =
     let last = behind-last c.loop-i-test.false c.loop-i.auto.i-end in
     let all : c.loop-i.i ≡ 4160 = omega (arith, last) in
+    let closing : c.loop-i.rest.now ≡ time_line 4161 = (slice_eq-Decides Decides-eqb _ _ _ c.eq.ensures).0 c.if-eq.true ∙ c.time_line.ensures in
     subst (λ n. GoneOver c.args.text.now (Done n) c.loop-i.flags) all
-    (closes c.args.text.now c.loop-i.invariant.0 (rw last (rw c.in-None.is at c.in_ok-what_follows.ensures)) c.loop-i.flags refl)
+    (closes c.args.text.now c.loop-i.invariant.0 (rw last (next-closing c.loop-i.rest.now 4161 c.loop-i.old closing)) c.loop-i.flags refl)
 
-pub returns-in-Some-3 : goal.returns-in-Some-3
-returns-in-Some-3 c =
+pub returns-else-eq : goal.returns-else-eq
+returns-else-eq c =
     let last = behind-last c.loop-i-test.false c.loop-i.auto.i-end in
-    rw c.at-in-Some-3.ensures
-    (runs-out c.args.text.now c.loop-i.invariant.0 (omega (arith, last)) (seen_by c.in-Some-3.field-0) (rw last (rw c.in-Some-3.is at c.in_ok-what_follows.ensures)) c.loop-i.flags)
+    rw c.at-else-eq.ensures
+    (ends-there c.args.text.now c.loop-i.invariant.0 (omega (arith, last))
+    (λ next.
+    let closing = closing-alone c.loop-i.rest.now _ c.loop-i.old next ∙ ap time_line last ∙ sym c.time_line.ensures in
+    false≢true (sym c.if-eq.false ∙ (slice_eq-Decides Decides-eqb _ _ _ c.eq.ensures).1 closing))
+    c.loop-i.flags)
