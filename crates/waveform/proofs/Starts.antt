@@ -8,9 +8,11 @@ use lib.ListN.{length, drop, take, length-append, length-drop}
 use lib.Seq.{drop-append_seam}
 use lib.Dec.{eqb}
 use borrow.Author.Tests.{eqb-true, eqb-false, eq-eqb, ne_eqb}
-use Rattle.std.specs.Prelude.{nat_eq}
+use Rattle.std.specs.Borrow.{Bor}
+use Rattle.std.specs.Prelude.{Option, None, Some, MatchOption, nat_eq}
 use Rattle.std.specs.Cmp.Lexicographic.{pointwise}
 use Rattle.waveform.specs.Text.{starts_with}
+use Rattle.waveform.specs.Passes.{IsBehind}
 
 -- what the bytes in the line's place say, compared with the line's
 either-way : (m n : ℕ) → eqb m n ≡ eqb n m
@@ -28,6 +30,13 @@ compared (b ∷ line) (c ∷ text) = ap₂ ◌&&◌ (either-way c b) (compared l
 -- the same of a line that is known
 pub asked : (line known text : List ℕ) (b : Bool) → line ≡ known → pointwise nat_eq (take (length line) text) line ≡ b → starts_with known text ≡ b
 asked line known text b same is = sym (compared known text) ∙ ap (λ l. pointwise nat_eq (take (length l) text) l) (sym same) ∙ is
+
+-- and what then stands behind it
+pub behind_asked : (line known text : List ℕ) → line ≡ known → (r : Option (Bor (List ℕ))) →
+    MatchOption r (pointwise nat_eq (take (length line) text) line ≡ false) (λ rest. (pointwise nat_eq (take (length line) text) line ≡ true) × (rest.now ≡ drop (length line) text) × (length rest.now + length line ≡ length text)) →
+    IsBehind known text r
+behind_asked line known text same None absent = asked line known text false same absent
+behind_asked line known text same (Some rest) there = (asked line known text true same there.0, there.1 ∙ ap (λ l. drop (length l) text) same)
 
 -- a text that is too short
 pub too_short : (line text : List ℕ) → length text < length line → starts_with line text ≡ false

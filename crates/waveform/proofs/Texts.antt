@@ -6,14 +6,14 @@ use mathlib.Core.List.{List, [], ◌∷◌, ◌++◌, append_assoc}
 use native.Mathlib.Omega.{arith}
 use native.Mathlib.Nat.{pow-succ', one-le-pow, mod-eq_of_lt}
 use lib.Arith.{mod-mul}
-use lib.ListN.{length, drop, length-append}
+use lib.ListN.{length, get_or, drop, length-append}
 use lib.Dec.{eqb, ltb}
 use borrow.Author.Tests.{ne_eqb, ltb-true}
 use Rattle.waveform.specs.declared.signals.Signal.{Signal}
 use Rattle.waveform.specs.declared.signals.Signal.TheVariants.{Level, Enable, Contention}
-use Rattle.waveform.specs.Text.{ascii, digits, places, time_line, starts_with}
+use Rattle.waveform.specs.Text.{ascii, digit_of, digits, places, time_line, starts_with}
 use Rattle.waveform.specs.Signals.{line_of}
-use Rattle.waveform.proofs.Starts.{started}
+use Rattle.waveform.proofs.Starts.{started, line-within}
 
 -- the number that the digits up to a newline say, behind digits that say `before`
 said : ℕ → List ℕ → ℕ
@@ -71,6 +71,26 @@ length_digits (suc k) n = ap suc (length_digits k n)
 pub length-time : (n : ℕ) → length (time_line n) ≡ 2 + places n
 unfolding time_line
 length-time n = omega (arith, length_digits (places n) n, length-append (digits (places n) n) (ascii "\n"))
+
+-- what starts with a time line has the number's last digit in its place
+in-place : (n before : ℕ) (more : List ℕ) → get_or (time_line n ++ more) (places n) before ≡ digit_of (n % 10)
+unfolding time_line
+in-place n before more = go (ltb n 10) (ltb n 100) (ltb n 1000)
+  where
+    lowest : n / 1 % 10 ≡ n % 10
+    lowest = omega arith
+
+    go : (one two three : Bool) → get_or (35 ∷ ((digits (cond one 1 (cond two 2 (cond three 3 4))) n ++ (10 ∷ [])) ++ more)) (cond one 1 (cond two 2 (cond three 3 4))) before ≡ digit_of (n % 10)
+    go true two three = ap digit_of lowest
+    go false true three = ap digit_of lowest
+    go false false true = ap digit_of lowest
+    go false false false = ap digit_of lowest
+
+pub last-digit : (n : ℕ) (text : List ℕ) (before : ℕ) → starts_with (time_line n) text ≡ true → get_or text (places n) before ≡ digit_of (n % 10)
+last-digit n text before there = ap (λ t. get_or t (places n) before) (started (time_line n) text there) ∙ in-place n before _
+
+pub place-within : (n : ℕ) (text : List ℕ) → starts_with (time_line n) text ≡ true → places n < length text
+place-within n text there = omega (arith, line-within text 0 (time_line n) (omega arith) there, length-time n)
 
 -- the bytes of a value line: its value, its signal's letter, a newline
 abbrev pub letter : Signal → ℕ

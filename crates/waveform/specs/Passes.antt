@@ -1,5 +1,6 @@
 -- What the parts of `write_vcd` and `read_vcd` promise each other.
-use Rattle.std.specs.Prelude.{ℕ, zero, suc, ◌+◌, ◌-◌, ◌*◌, ◌≤◌, ◌≡◌, Bool, not, ◌&&◌, cond, List, [], ◌∷◌, ◌++◌, map, length, take, drop, eqb, ltb, Result, Ok, Err, Option, Some, None}
+use Rattle.std.specs.Prelude.{ℕ, zero, suc, ◌+◌, ◌-◌, ◌*◌, ◌≤◌, ◌≡◌, Bool, true, false, not, ◌&&◌, cond, List, [], ◌∷◌, ◌++◌, map, length, take, drop, eqb, ltb, Result, Ok, Err, Option, Some, None}
+use Rattle.std.specs.Borrow.{Bor}
 use Rattle.verdict.specs.Refusal.{Verdict, Done, Refused, wrong_text, refusal_at}
 use Rattle.verdict.specs.declared.Refusal.{Refusal}
 use Rattle.verdict.specs.declared.Fault.TheVariants.{WrongText}
@@ -51,7 +52,12 @@ clock_at log i = record { number = i + 1; old = signals_of (flags_before log i);
 abbrev pub Accepted : List ℕ → Type 0
 Accepted log = log_verdict log ≡ Done (records log_record log)
 
--- Reading: what the text says of a signal in a clock, or of all three, and the text behind its lines
+-- Reading: what stands behind a line, if the text starts with it
+abbrev pub IsBehind : List ℕ → List ℕ → Option (Bor (List ℕ)) → Type 0
+IsBehind line text None = starts_with line text ≡ false
+IsBehind line text (Some rest) = (starts_with line text ≡ true) × (rest.now ≡ drop (length line) text)
+
+-- what the text says of a signal in a clock, or of all three, and the text behind its lines
 pub record Seen (A : Type 0) : Type 0 where
   pub value : A
   pub rest : List ℕ

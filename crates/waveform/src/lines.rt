@@ -20,7 +20,7 @@ pub(crate) fn header() -> [u8; Waveform::HEADER]
        $enddefinitions $end\n"
 }
 
-fn digit(value: usize) -> u8
+pub(crate) fn digit(value: usize) -> u8
     requires { value < 10 }
     ensures { result ≡ digit_of value }
 {
