@@ -27,7 +27,9 @@ fn past<F: Fn(u8) -> bool>(text: &[u8], over: F) -> &[u8]
 }
 
 // What a digit says, decimal, or hexadecimal in capitals.
-fn digit(byte: u8, base: u32) -> Option<u32> {
+fn digit(byte: u8, base: u32) -> Option<u32>
+    ensures { IfSome result (λ d. d < 16) }
+{
     match byte {
         b'0'..=b'9' => Some(u32::from(byte - b'0')),
         b'A'..=b'F' if base == 16 => Some(u32::from(byte - b'A') + 10),
