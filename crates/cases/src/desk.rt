@@ -1,4 +1,5 @@
-// What a case works on: a board, and the buffers, as each case finds them. The words that write into them are in `writes`.
+// What a case works on: a board, and the buffers, as each case finds them. The words that write into them are in `writes`. All
+// cases work at one desk, each once it is clear: a new one for each would be copied, which takes longer.
 use crate::calls::Call;
 use crate::changes::Change;
 use crate::script::Word;
@@ -7,7 +8,6 @@ use crate::writes::Write;
 use board::Board;
 use frame::{Answer, Frame, Steps, Transaction};
 use std::io;
-use verdict::zeroed;
 use waveform::Waveform;
 
 // The inputs have room for one record more than is allowed.
@@ -39,8 +39,8 @@ pub(crate) struct Desk {
 }
 
 // 33 board records like board P's, with the addresses 0 to 32.
-fn file() -> [u8; FILE] {
-    let mut file = zeroed::<FILE>();
+fn lay_file(file: &mut [u8]) {
+    file.fill(0);
     for (address, record) in (0u8..).zip(file.chunks_exact_mut(Board::RECORD)) {
         record[0] = address;
         record[5] = 0x0F;
@@ -48,23 +48,21 @@ fn file() -> [u8; FILE] {
         record[8] = 0x78;
         record[9] = 0x49;
     }
-    file
 }
 
 // 65 reads of the status of PHY 1.
-fn list() -> [u8; LIST] {
-    let mut list = zeroed::<LIST>();
+fn lay_list(list: &mut [u8]) {
+    list.fill(0);
     for record in list.chunks_exact_mut(Transaction::BYTES) {
         record[0] = Transaction::READ;
         record[1] = 1;
         record[2] = 1;
     }
-    list
 }
 
 // 257 events: event k at clock k, its addresses 0 to 31 and its codes 1 to 7 in turn.
-fn events() -> [u8; EVENTS] {
-    let mut events = zeroed::<EVENTS>();
+fn lay_events(events: &mut [u8]) {
+    events.fill(0);
     for (k, record) in (0u16..).zip(events.chunks_exact_mut(Board::EVENT_RECORD)) {
         let [high, low] = k.to_be_bytes();
         record[0] = high;
@@ -72,26 +70,36 @@ fn events() -> [u8; EVENTS] {
         record[2] = (k % 32) as u8;
         record[3] = (k % 7 + 1) as u8;
     }
-    events
 }
 
-// An output's room, of bytes that no log has for its flags, and no text anywhere; as flags they say that no signal is 1.
-fn unwritten<const N: usize>() -> [u8; N] {
-    [8; N]
-}
+// What stands in the outputs: a byte that no log has for its flags, and no text anywhere; as flags it says that no signal is 1.
+const UNWRITTEN: u8 = 8;
 
 impl Desk {
-    pub(crate) fn fresh() -> Desk {
+    // A desk with nothing on it. Each case clears it first.
+    pub(crate) fn new() -> Desk {
         Desk {
             board: board::load(b"").board,
-            file: file(),
-            list: list(),
-            events: events(),
-            steps: unwritten(),
-            log: unwritten(),
-            answers: unwritten(),
-            text: unwritten(),
+            file: [0; FILE],
+            list: [0; LIST],
+            events: [0; EVENTS],
+            steps: [0; STEPS],
+            log: [0; LOG],
+            answers: [0; ANSWERS],
+            text: [0; TEXT],
         }
+    }
+
+    // The desk becomes as each case finds it.
+    pub(crate) fn clear(&mut self) {
+        self.board = board::load(b"").board;
+        lay_file(&mut self.file);
+        lay_list(&mut self.list);
+        lay_events(&mut self.events);
+        self.steps.fill(UNWRITTEN);
+        self.log.fill(UNWRITTEN);
+        self.answers.fill(UNWRITTEN);
+        self.text.fill(UNWRITTEN);
     }
 
     // What a word of a case does. A misspelt one shows as a question mark.

@@ -14,9 +14,9 @@ use desk::Desk;
 use std::io;
 use verdict::{read_full, zeroed};
 
-// Every case starts at a fresh desk.
-fn try_words(rt: &impl Print, words: &[u8]) -> io::Result<()> {
-    let mut desk = Desk::fresh();
+// Every case starts at a clear desk.
+fn try_words(rt: &impl Print, desk: &mut Desk, words: &[u8]) -> io::Result<()> {
+    desk.clear();
     let mut rest = words;
     while let Some((word, behind)) = script::next_word(rest) {
         desk.obey(rt, word)?;
@@ -26,13 +26,13 @@ fn try_words(rt: &impl Print, words: &[u8]) -> io::Result<()> {
 }
 
 // A line without a colon is no case.
-fn try_line(rt: &impl Print, line: &[u8]) -> io::Result<()> {
+fn try_line(rt: &impl Print, desk: &mut Desk, line: &[u8]) -> io::Result<()> {
     let Some(colon) = line.iter().position(|byte| *byte == b':') else {
         return Ok(());
     };
     let (tried, words) = line.split_at(colon + 1);
     rt.write_all(tried)?;
-    try_words(rt, words)?;
+    try_words(rt, desk, words)?;
     rt.write_all(b"\n")
 }
 
@@ -42,8 +42,9 @@ const INPUT: usize = 65536;
 fn main(rt: HostRuntime) -> io::Result<()> {
     let mut input = zeroed::<INPUT>();
     let cases = read_full(&mut rt.reader(), &mut input);
+    let mut desk = Desk::new();
     for line in cases.split(|byte| *byte == b'\n') {
-        try_line(&rt, line)?;
+        try_line(&rt, &mut desk, line)?;
     }
     Ok(())
 }
