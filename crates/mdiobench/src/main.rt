@@ -61,6 +61,8 @@ fn bench<S: Fn(Accepted, &[u8]) -> io::Result<()>>(
 
 // Document 01: "The program takes the list on standard input, and `board.rec` and `events.rec` from its directory". What passes
 // is sent as asked: for its answers, or for its waveform.
+// It is never inlined: its buffers would lie on the stack of a capture's run too.
+#[inline(never)]
 fn tray<S: Fn(Accepted, &[u8]) -> io::Result<()>>(
     rt: &(impl Files + Input + Print),
     send: S,
