@@ -1,5 +1,7 @@
 // What a case works on: a board, and the buffers, as each case finds them. The words that write into them are in `writes`. All
 // cases work at one desk, each once it is clear: a new one for each would be copied, which takes longer.
+ghost use Rattle.std.specs.Prelude.{◌≡◌, length, replicate};
+
 use crate::calls::Call;
 use crate::changes::Change;
 use crate::script::Word;
@@ -8,6 +10,7 @@ use crate::writes::Write;
 use board::Board;
 use frame::{Answer, Frame, Steps, Transaction};
 use std::io;
+use verdict::zeroed;
 use waveform::Waveform;
 
 // The inputs have room for one record more than is allowed.
@@ -39,8 +42,8 @@ pub(crate) struct Desk {
 }
 
 // 33 board records like board P's, with the addresses 0 to 32.
-fn lay_file(file: &mut [u8]) {
-    file.fill(0);
+fn file() -> [u8; FILE] {
+    let mut file = zeroed::<FILE>();
     for (address, record) in (0u8..).zip(file.chunks_exact_mut(Board::RECORD)) {
         record[0] = address;
         record[5] = 0x0F;
@@ -48,21 +51,23 @@ fn lay_file(file: &mut [u8]) {
         record[8] = 0x78;
         record[9] = 0x49;
     }
+    file
 }
 
 // 65 reads of the status of PHY 1.
-fn lay_list(list: &mut [u8]) {
-    list.fill(0);
+fn list() -> [u8; LIST] {
+    let mut list = zeroed::<LIST>();
     for record in list.chunks_exact_mut(Transaction::BYTES) {
         record[0] = Transaction::READ;
         record[1] = 1;
         record[2] = 1;
     }
+    list
 }
 
 // 257 events: event k at clock k, its addresses 0 to 31 and its codes 1 to 7 in turn.
-fn lay_events(events: &mut [u8]) {
-    events.fill(0);
+fn events() -> [u8; EVENTS] {
+    let mut events = zeroed::<EVENTS>();
     for (k, record) in (0u16..).zip(events.chunks_exact_mut(Board::EVENT_RECORD)) {
         let [high, low] = k.to_be_bytes();
         record[0] = high;
@@ -70,6 +75,7 @@ fn lay_events(events: &mut [u8]) {
         record[2] = (k % 32) as u8;
         record[3] = (k % 7 + 1) as u8;
     }
+    events
 }
 
 // What stands in the outputs: a byte that no log has for its flags, and no text anywhere; as flags it says that no signal is 1.
@@ -91,11 +97,16 @@ impl Desk {
     }
 
     // The desk becomes as each case finds it.
-    pub(crate) fn clear(&mut self) {
+    pub(crate) fn clear(&mut self)
+        ensures steps { self.new.steps ≡ replicate (length self.old.steps) 8 }
+        ensures log { self.new.log ≡ replicate (length self.old.log) 8 }
+        ensures answers { self.new.answers ≡ replicate (length self.old.answers) 8 }
+        ensures text { self.new.text ≡ replicate (length self.old.text) 8 }
+    {
         self.board = board::load(b"").board;
-        lay_file(&mut self.file);
-        lay_list(&mut self.list);
-        lay_events(&mut self.events);
+        self.file = file();
+        self.list = list();
+        self.events = events();
         self.steps.fill(UNWRITTEN);
         self.log.fill(UNWRITTEN);
         self.answers.fill(UNWRITTEN);
