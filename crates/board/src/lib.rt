@@ -46,7 +46,7 @@ pub struct Outcome<E = Refusal> {
     pub board: Board,
 }
 
-impl<E> Outcome<E> {
+impl<E: Drop> Outcome<E> {
     pub fn of(verdict: Result<usize, E>, board: Board) -> Outcome<E>
         ensures { result ≡ outcome_of verdict board }
     {
